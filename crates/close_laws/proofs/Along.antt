@@ -72,13 +72,13 @@ module _ (layout : Layout) (start : Volume) (entries : List OldEntry) (named : N
         sym (at.drawing.fits.numbers.rests core.0 number reserved) ∙ (ap (λ c. (past.owns c).flight) (sym same) ∙ flight.is) in cc never)
         (ap (λ f. f flight.core) waits)
 
-    looked_so : (turn : Turn) → Here (label.Looked turn) → (other : ℕ) → FliesHere past other
-        → FliesHere (after_label layout core.0 (label.Looked turn) past) other
-    looked_so turn at other flight =
+    learned_so : (turn : Turn) → Here (label.Learned turn) → (other : ℕ) → FliesHere past other
+        → FliesHere (after_label layout core.0 (label.Learned turn) past) other
+    learned_so turn at other flight =
         let rule = at.drawing.owing.may.0.1 in
         let apart : flight.core ≢ core.0 = λ same.
         (let never : ◌≡◌ {A = Option Turn} None (Some turn) = sym flight.waits ∙ (ap past.waits same ∙ rule.waits) in cc never) in
-        flight_other layout start entries named first begins moment before done past core rest space flies (label.Looked turn) other flight apart
+        flight_other layout start entries named first begins moment before done past core rest space flies (label.Learned turn) other flight apart
         (at_other past.waits core.0 None flight.core apart)
 
     -- a label without a turn, which ends nothing and leaves each core's flight
@@ -108,9 +108,9 @@ module _ (layout : Layout) (start : Volume) (entries : List OldEntry) (named : N
     front_label (label.Settled k turn) at then does ties =
         settled_so layout start entries named first begins moment before done past core rest space next flies fronts k turn at then does
         (ties turn (in_right past.turns (turn ∷ []) turn (inl refl)) (inr at.drawing.owing.may.0.1.is.did_is))
-    front_label (label.Looked turn) at then does ties =
-        still_so layout start entries named first begins moment before done past core rest space next flies fronts (label.Looked turn) refl refl
-        (looked_so turn at)
+    front_label (label.Learned turn) at then does ties =
+        still_so layout start entries named first begins moment before done past core rest space next flies fronts (label.Learned turn) refl refl
+        (learned_so turn at)
     front_label (label.Placed k n ok) at then does ties = quiet_so (label.Placed k n ok) refl refl refl refl
     front_label (label.Shut k ok) at then does ties = quiet_so (label.Shut k ok) refl refl refl refl
     front_label (label.Idled k) at then does ties = quiet_so (label.Idled k) refl refl refl refl

@@ -55,7 +55,7 @@ module _ (named : Numbered) (layout : Layout) (before : ℕ) (first : Space) whe
     through_label (label.Opened k done_so cut opened) at does told =
         opened_label named layout before first done past core rest space next k done_so cut opened at does
     through_label (label.Settled k turn) at does told = settled_label named layout before first done past core rest space next k turn at does
-    through_label (label.Looked turn) at does told = quiet_label named layout before first done past core rest space next (label.Looked turn) at does told
+    through_label (label.Learned turn) at does told = quiet_label named layout before first done past core rest space next (label.Learned turn) at does told
         (λ other e. cc e) refl (all_were past.opens) refl does
     through_label (label.Placed k n done_so) at does told =
         quiet_label named layout before first done past core rest space next (label.Placed k n done_so) at does told (λ turn e. cc e) refl

@@ -341,7 +341,7 @@ module _ (layout : Layout) (start : Volume) (entries : List OldEntry) (named : N
     books_label (label.Synced now) next at does told = quiet_books (after_label layout core.0 (label.Synced now) past) refl refl refl refl
     books_label (label.Opened k done_so cut opened) next at does told = opened_books k done_so cut opened at
     books_label (label.Settled k turn) next at does told = settled_books k turn next at does
-    books_label (label.Looked turn) next at does told = quiet_books (after_label layout core.0 (label.Looked turn) past) refl refl refl refl
+    books_label (label.Learned turn) next at does told = quiet_books (after_label layout core.0 (label.Learned turn) past) refl refl refl refl
     books_label (label.Placed k n done_so) next at does told = quiet_books (after_label layout core.0 (label.Placed k n done_so) past) refl refl refl refl
     books_label (label.Shut k done_so) next at does told = quiet_books (after_label layout core.0 (label.Shut k done_so) past) refl refl refl refl
     books_label (label.Idled k) next at does told = quiet_books (after_label layout core.0 (label.Idled k) past) refl refl refl refl

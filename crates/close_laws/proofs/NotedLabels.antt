@@ -153,7 +153,7 @@ module _ (named : Numbered) (layout : Layout) (before : ℕ) (first : Space) whe
         flying_cut : FliesAs (past.owns core.0) turn → turn.act ≡ act.CutAt → Goes turn
         flying_cut flies is =
             elim (at.fits.flights.each core.0 flies.flight flies.flies).is [
-              | inr landed ↦ absurd (let never : ◌≡◌ {A = Option Turn} None (Some landed.turn) = sym rule.looked ∙ landed.waits_is in cc never)
+              | inr landed ↦ absurd (let never : ◌≡◌ {A = Option Turn} None (Some landed.turn) = sym rule.learned ∙ landed.waits_is in cc never)
               | inl flying ↦
                   let aloft = at.opens.aloft flies.flight.slot flying.work flying.there flying.aloft in
                   let stamp : turn.stamp.0 ≡ named.stamps aloft.one.number =

@@ -318,7 +318,7 @@ module _ (named : Numbered) where
     opens_label teller at_core (label.Opened k done cut opened) rule tells told =
         quiet_fit (label.Opened k done cut opened) refl refl refl (changed_slots k (known_gated done open_gate))
     opens_label teller at_core (label.Settled k turn) rule tells told = settled_fit k turn rule
-    opens_label teller at_core (label.Looked turn) rule tells told = quiet_fit (label.Looked turn) refl refl refl same_slots
+    opens_label teller at_core (label.Learned turn) rule tells told = quiet_fit (label.Learned turn) refl refl refl same_slots
     opens_label teller at_core (label.Placed k n done) rule tells told =
         quiet_fit (label.Placed k n done) refl refl refl (changed_slots k (known_placed done n))
     opens_label teller at_core (label.Shut k done) rule tells told =

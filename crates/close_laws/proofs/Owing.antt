@@ -57,7 +57,7 @@ sort_of (label.Opened slot done cut opened) =
     is_other (record { stays = λ own. refl; no_note = λ turn e. cc e; busy = λ layout core past. refl; turn = λ core busy has. has })
 sort_of (label.Settled slot turn) =
     is_other (record { stays = λ own. refl; no_note = λ other e. cc e; busy = λ layout core past. refl; turn = λ core busy has. has })
-sort_of (label.Looked turn) =
+sort_of (label.Learned turn) =
     is_other (record { stays = λ own. refl; no_note = λ other e. cc e; busy = λ layout core past. refl; turn = λ core busy has. has })
 sort_of (label.Placed slot n done) =
     is_other (record { stays = λ own. refl; no_note = λ turn e. cc e; busy = λ layout core past. refl; turn = λ core busy has. has })

@@ -78,7 +78,7 @@ module _ (named : Numbered) where
   step_fits (label.Reserved number seen grant) step = absurd step
   step_fits (label.Returned number) step = tt
   step_fits (label.Began filling number node stamp blocks inodes) step = absurd step
-  step_fits (label.Looked turn) step = tt
+  step_fits (label.Learned turn) step = tt
   step_fits (label.Empty number cut opened durable) step = absurd step
 
   steps_fit : (facts : List Label) → AreSteps facts → (fact : Label) → IsOneOf facts fact → FitsBut fact
@@ -109,7 +109,7 @@ module _ (named : Numbered) where
   turn_fits stamps core told (turn_begins filling number node stamp blocks inodes) tells fits fact among =
       fits_one (label.Began filling number node stamp blocks inodes) fact fits among
   turn_fits stamps core told (turn_opens slot done cut opened) tells fits fact among = fits_one (label.Opened slot done cut opened) fact tt among
-  turn_fits stamps core told (turn_lands turn) tells fits fact among = fits_one (label.Looked turn) fact tt among
+  turn_fits stamps core told (turn_lands turn) tells fits fact among = fits_one (label.Learned turn) fact tt among
   turn_fits stamps core told (turn_fails facts cut fail) tells fits fact among =
       elim (in_either facts (label.Noted cut ∷ label.Noted fail ∷ []) fact among) [
         | inl step ↦ steps_fit facts (works_steps facts tells.is.0) fact step
@@ -162,7 +162,7 @@ module _ (named : Numbered) where
   event_fits layout before log past may core (label.Synced now) among fits = tt
   event_fits layout before log past may core (label.Opened slot done cut opened) among fits = tt
   event_fits layout before log past may core (label.Settled slot turn) among fits = tt
-  event_fits layout before log past may core (label.Looked turn) among fits = tt
+  event_fits layout before log past may core (label.Learned turn) among fits = tt
   event_fits layout before log past may core (label.Placed slot n done) among fits = tt
   event_fits layout before log past may core (label.Shut slot done) among fits = tt
   event_fits layout before log past may core (label.Idled slot) among fits = tt

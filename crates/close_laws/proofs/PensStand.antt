@@ -38,7 +38,7 @@ step_told stamps may told granted (label.Noted turn) step = absurd step
 step_told stamps may told granted (label.Reserved commit seen grant) step = absurd step
 step_told stamps may told granted (label.Returned commit) step = absurd step
 step_told stamps may told granted (label.Began filling commit node stamp blocks inodes) step = absurd step
-step_told stamps may told granted (label.Looked turn) step = absurd step
+step_told stamps may told granted (label.Learned turn) step = absurd step
 step_told stamps may told granted (label.Empty commit cut opened durable) step = absurd step
 
 -- work is steps
@@ -56,7 +56,7 @@ work_step (label.Noted turn) work = absurd work
 work_step (label.Reserved commit seen grant) work = absurd work
 work_step (label.Returned commit) work = absurd work
 work_step (label.Began filling commit node stamp blocks inodes) work = absurd work
-work_step (label.Looked turn) work = absurd work
+work_step (label.Learned turn) work = absurd work
 work_step (label.Empty commit cut opened durable) work = absurd work
 
 pub works_steps : (facts : List Label) → AreOfWork facts → AreSteps facts
@@ -77,7 +77,7 @@ flight_step core number flush (label.Noted turn) of = absurd of
 flight_step core number flush (label.Reserved commit seen grant) of = absurd of
 flight_step core number flush (label.Returned commit) of = absurd of
 flight_step core number flush (label.Began filling commit node stamp blocks inodes) of = absurd of
-flight_step core number flush (label.Looked turn) of = absurd of
+flight_step core number flush (label.Learned turn) of = absurd of
 flight_step core number flush (label.Empty commit cut opened durable) of = absurd of
 
 pub flights_steps : (core number : ℕ) (flush : Flush) (facts : List Label) → AreOfFlight core number flush facts → AreSteps facts
@@ -105,7 +105,7 @@ own_step number flush (label.Noted turn) told step own = absurd step
 own_step number flush (label.Reserved commit seen grant) told step own = absurd step
 own_step number flush (label.Returned commit) told step own = absurd step
 own_step number flush (label.Began filling commit node stamp blocks inodes) told step own = absurd step
-own_step number flush (label.Looked turn) told step own = absurd step
+own_step number flush (label.Learned turn) told step own = absurd step
 own_step number flush (label.Empty commit cut opened durable) told step own = absurd step
 
 own_steps : (number : ℕ) (flush : Flush) (core : ℕ) (facts : List Label) (told : OwnTold) → AreSteps facts → IsOwn number flush told

@@ -50,7 +50,7 @@ module _ (layout : Layout) (start : Volume) (entries : List OldEntry) (named : N
   label_keeps core (label.Synced now) past turn one = one
   label_keeps core (label.Opened k ok cut opened) past turn one = in_left past.turns (cut ∷ opened ∷ []) turn one
   label_keeps core (label.Settled k own) past turn one = in_left past.turns (own ∷ []) turn one
-  label_keeps core (label.Looked own) past turn one = one
+  label_keeps core (label.Learned own) past turn one = one
   label_keeps core (label.Placed k n ok) past turn one = one
   label_keeps core (label.Shut k ok) past turn one = one
   label_keeps core (label.Idled k) past turn one = one

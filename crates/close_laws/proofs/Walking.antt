@@ -368,7 +368,7 @@ module _ (layout : Layout) (start : Volume) (entries : List OldEntry) (named : N
       beside_label (label.Synced now) at then does told tells = quiet (stamps_under named past.opens) refl does
       beside_label (label.Opened k done_so cut opened) at then does told tells = quiet (stamps_under named past.opens) refl does
       beside_label (label.Settled k turn) at then does told tells = settled_so k turn at does
-      beside_label (label.Looked turn) at then does told tells = quiet (stamps_under named past.opens) refl does
+      beside_label (label.Learned turn) at then does told tells = quiet (stamps_under named past.opens) refl does
       beside_label (label.Placed k n done_so) at then does told tells = quiet (stamps_under named past.opens) refl does
       beside_label (label.Shut k done_so) at then does told tells = quiet (stamps_under named past.opens) refl does
       beside_label (label.Idled k) at then does told tells = quiet (stamps_under named past.opens) refl does

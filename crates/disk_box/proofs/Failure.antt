@@ -58,14 +58,14 @@ pub record GoesOnBroken {D : Type 0} (view : D → View) (core : ℕ) (mid : Pen
   pub frame : FrameFits view mid.table.given (past_at mid) now
   pub space : SpaceFits mid.table.given mid.view.seen now
   pub calm : (past_at mid).failed ≡ None
-  pub looked : (past_at mid).waits core ≡ None
+  pub learned : (past_at mid).waits core ≡ None
 
 pub cut_goes_on : {D : Type 0} (view : D → View) (t : TableState (BoxKey D)) (before mid : PenHand D) (turn : Turn) (was now : Desk D) → HoldsBox t before
     → HoldsBox t mid → TellsLabel (label.Noted turn) before mid → FrameFits view before.table.given (past_at before) was
     → SpaceFits before.table.given before.view.seen was → (past_at before).failed ≡ None → (past_at before).waits before.view.core ≡ None
     → NotedRule before.table.given.faults before.view.core turn (past_at before) → turn.act ≡ act.CutAt → turn.now ≡ (view was.disk).now
     → now ≡ record was { turns = now.turns } → now.turns.items ≡ was.turns.items ++ turn ∷ [] → GoesOnBroken view before.view.core mid now
-cut_goes_on {D = D} view t before mid turn was now held holds tells frame space calm looked rule cuts moment same turns =
+cut_goes_on {D = D} view t before mid turn was now held holds tells frame space calm learned rule cuts moment same turns =
     let key = before.table.given in
     let none : failure_by turn.act turn.faults ≡ None = ap (λ (w : TurnAct). failure_by w turn.faults) cuts in
     let kept : now.failed ≡ was.failed = ap (λ (d : Desk D). d.failed) same in
@@ -77,5 +77,5 @@ cut_goes_on {D = D} view t before mid turn was now held holds tells frame space 
           (same ∙ (λ i. record was { turns = now.turns; failed = sym kept i })) turns (kept ∙ sym (ap (option_or was.failed) none ∙ or_none was.failed)));
       space = space_told view t before mid (label.Noted turn) holds tells was now space (ap (λ (d : Desk D). d.ledger.space) same);
       calm = failed_told view t before mid (label.Noted turn) holds tells None (ap (option_or (past_at before).failed) none ∙ (or_none (past_at before).failed ∙ calm));
-      looked = ap (λ (p : BoxPast). p.waits before.view.core) tells.past ∙ looked;
+      learned = ap (λ (p : BoxPast). p.waits before.view.core) tells.past ∙ learned;
     }

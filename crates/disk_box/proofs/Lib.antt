@@ -8,7 +8,7 @@ pub mod Flights
 pub mod Frames
 pub mod GateOpened
 pub mod Left
-pub mod Looked
+pub mod Learned
 pub mod NextOldest
 pub mod Nexts
 pub mod Noted

@@ -9,7 +9,7 @@ use Rattle.turn_laws.specs.Books.{CountsFaults}
 use Rattle.slot_laws.specs.Labels.{BoxPast}
 use Rattle.slot_laws.specs.Rules.{NotedRule}
 
-module _ (before core : ℕ) (past : BoxPast) (turn : Turn) (own : turn.core.0 ≡ core) (looked : past.waits core ≡ None) (rises : past.moment ≤ turn.now) where
+module _ (before core : ℕ) (past : BoxPast) (turn : Turn) (own : turn.core.0 ≡ core) (learned : past.waits core ≡ None) (rises : past.moment ≤ turn.now) where
   counts_as : (failed : Option ℕ) (what : TurnAct) → past.failed ≡ failed → turn.act ≡ what → CountsFaults before turn.faults failed what turn.faults
       → CountsFaults before turn.faults past.failed turn.act turn.faults
   counts_as failed what is did counts =
@@ -21,7 +21,7 @@ module _ (before core : ℕ) (past : BoxPast) (turn : Turn) (own : turn.core.0 �
     own = own;
     no_open = λ e. absurd (cc (did, e));
     no_durable = λ e. absurd (cc (did, e));
-    looked = looked;
+    learned = learned;
     now = record { rises = rises; counts = counts_as None act.Fail calm did (risen, omega arith) };
   }
 
@@ -31,7 +31,7 @@ module _ (before core : ℕ) (past : BoxPast) (turn : Turn) (own : turn.core.0 �
     own = own;
     no_open = λ e. absurd (cc (did, e));
     no_durable = λ e. absurd (cc (did, e));
-    looked = looked;
+    learned = learned;
     now = record { rises = rises; counts = counts_as None act.CutAt calm did same };
   }
 
@@ -41,7 +41,7 @@ module _ (before core : ℕ) (past : BoxPast) (turn : Turn) (own : turn.core.0 �
     own = own;
     no_open = λ e. absurd (cc (did, e));
     no_durable = λ e. absurd (cc (did, e));
-    looked = looked;
+    learned = learned;
     now = record { rises = rises; counts = counts_as None act.Granted calm did same };
   }
 
@@ -51,7 +51,7 @@ module _ (before core : ℕ) (past : BoxPast) (turn : Turn) (own : turn.core.0 �
     own = own;
     no_open = λ e. absurd (cc (did, e));
     no_durable = λ e. absurd (cc (did, e));
-    looked = looked;
+    learned = learned;
     now = record { rises = rises; counts = counts_as None (act.Short kind need free) calm did same };
   }
 
@@ -60,7 +60,7 @@ module _ (before core : ℕ) (past : BoxPast) (turn : Turn) (own : turn.core.0 �
     own = own;
     no_open = λ e. absurd (cc (did, e));
     no_durable = λ e. absurd (cc (did, e));
-    looked = looked;
+    learned = learned;
     now = record { rises = rises; counts = counts_as None act.GivenBack calm did same };
   }
 
@@ -69,6 +69,6 @@ module _ (before core : ℕ) (past : BoxPast) (turn : Turn) (own : turn.core.0 �
     own = own;
     no_open = λ e. absurd (cc (did, e));
     no_durable = λ e. absurd (cc (did, e));
-    looked = looked;
+    learned = learned;
     now = record { rises = rises; counts = counts_as (Some failed) act.GivenBack is did (more, omega arith) };
   }

@@ -38,9 +38,9 @@ owed_within (suc n) core past low = elim (same_or_not core n) [
 -- one that may take a turn has room for it
 pub room_for : {D : Type 0} (key : BoxKey D) (core k : ℕ) (past : BoxPast) (desk : Desk D) → core < key.layout.cores → RoomFits key past desk
     → past.waits core ≡ None → k ≤ owed_of (past.owns core) None → k ≤ desk.turns.spare
-room_for key core k past desk low room looked owes =
+room_for key core k past desk low room learned owes =
     let within = owed_within key.layout.cores core past low in
-    let here : owed_of (past.owns core) (past.waits core) ≡ owed_of (past.owns core) None = ap (owed_of (past.owns core)) looked in
+    let here : owed_of (past.owns core) (past.waits core) ≡ owed_of (past.owns core) None = ap (owed_of (past.owns core)) learned in
     omega (arith, within, here, room, owes)
 
 -- one whose last turn has come takes none any more
@@ -75,13 +75,13 @@ pub ended_room : {D : Type 0} (key : BoxKey D) (core : ℕ) (past : BoxPast) (tu
     → ends_all turn.act ≡ true → past.waits core ≡ None → RoomFits key past desk
     → (owed_by key.layout.cores past < desk.turns.spare) ⊎ (0 < owed_of (past.owns core) None)
     → owed_by key.layout.cores (after_label key.layout core (label.Noted turn) past) < desk.turns.spare
-ended_room key core past turn desk low ends looked fits room =
+ended_room key core past turn desk low ends learned fits room =
     let later = after_label key.layout core (label.Noted turn) past in
     let over : (later.owns core).over ≡ true = ap (λ (o : OwnTold). o.over) (own_after key.layout core (label.Noted turn) past)
     ∙ ap (λ b. b || (past.owns core).over) ends
     in
     let others = others_after key.layout core (label.Noted turn) past in
-    let here : owed_of (past.owns core) (past.waits core) ≡ owed_of (past.owns core) None = ap (owed_of (past.owns core)) looked in
+    let here : owed_of (past.owns core) (past.waits core) ≡ owed_of (past.owns core) None = ap (owed_of (past.owns core)) learned in
     elim room [
       | inl spare ↦ (let less = owed_ends key.layout.cores core 0 past later low (omega arith) over others (λ other. refl) in omega (arith, less, spare))
       | inr owes ↦ (let less = owed_ends key.layout.cores core 1 past later low (omega (arith, owes, here)) over others (λ other. refl) in omega (arith, less, fits))

@@ -1,4 +1,4 @@
--- A commit is durable behind a sync: its turn is taken, it has ended, and waits for its core to look.
+-- A commit is durable behind a sync: its turn is taken, it has ended, and waits for its core to learn of it.
 use Rattle.disk_box.specs.Desk.{GoesOnSince, HaveFew}
 use Rattle.std.specs.Prelude.{is_some, slice_get, option_map}
 use Rattle.std.proofs.Common.{◌≡◌, ◌≢◌, ◌<◌, ◌≤◌, ◌+◌, ◌*◌, ◌/◌, ◌∷◌, ◌++◌, ◌∙◌, ℕ, Bool, List, [], length, true, false, cond, Option, Some, None, inl, inr, refl, sym, ap, subst, arith, slice_set, max}

@@ -103,7 +103,7 @@ slots_leave layout core (label.Returned commit) past of = absurd of
 slots_leave layout core (label.Began filling commit node stamp blocks inodes) past of = absurd of
 slots_leave layout core (label.Opened slot done cut opened) past of = absurd of
 slots_leave layout core (label.Settled slot turn) past of = absurd of
-slots_leave layout core (label.Looked turn) past of = absurd of
+slots_leave layout core (label.Learned turn) past of = absurd of
 slots_leave layout core (label.Empty commit cut opened durable) past of = absurd of
 
 -- and free space
@@ -122,7 +122,7 @@ slots_leave_space core (label.Returned commit) past old new of same = absurd of
 slots_leave_space core (label.Began filling commit node stamp blocks inodes) past old new of same = absurd of
 slots_leave_space core (label.Opened slot done cut opened) past old new of same = absurd of
 slots_leave_space core (label.Settled slot turn) past old new of same = absurd of
-slots_leave_space core (label.Looked turn) past old new of same = absurd of
+slots_leave_space core (label.Learned turn) past old new of same = absurd of
 slots_leave_space core (label.Empty commit cut opened durable) past old new of same = absurd of
 
 -- bytes that were put leave it told what a read gives where it was

@@ -8,13 +8,13 @@ use Rattle.slot_laws.specs.Rules.{IsTurnBy}
 use Rattle.slot_laws.specs.declared.label.Label.TheVariants as label
 use Rattle.disk_box.specs.Pens.{PenHand, Tells}
 
--- The core's flight has landed: this turn made its commit durable, and the core has looked at it.
+-- The core's flight has landed: this turn made its commit durable, and the core has learned of it.
 pub record Lands (turn : Turn) (core : ℕ) (before after : OwnTold) : Type 0 where
   pub flight : SlotFlight
   pub flew : before.flight ≡ Some flight
   pub opened : flight.opened ≡ true
   pub by : IsTurnBy turn act.Durable core flight.commit flight.flush
-  pub after_is : after ≡ own_label (label.Looked turn) before
+  pub after_is : after ≡ own_label (label.Learned turn) before
 
 -- A commit of the core is halted, since an earlier one had failed.
 pub record Halts (number : ℕ) (flush : Flush) (core : ℕ) (before after : OwnTold) : Type 0 where

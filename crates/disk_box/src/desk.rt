@@ -31,7 +31,7 @@ pub struct Slot {
 }
 
 /// What lies in the box: the disk; its slots, those of core 0 first; for each core the turn that made its commit durable, where the core has not
-/// looked at it; what is kept of nodes, numbers and free space; how many commit stamps were drawn; the disk's count of faults
+/// learned of it; what is kept of nodes, numbers and free space; how many commit stamps were drawn; the disk's count of faults
 /// as the box was made, and at the first failure, where there was one; and the record of turns.
 #[derive(Drop)]
 pub struct Desk<D> {

@@ -20,7 +20,7 @@ pub fn fail_unopened<D: Disk + Drop>(
     faults: u64,
 )
     requires broken { IsBroken D.view table.now pen.old desk.old faults }
-    requires looked { (past_at pen.old).waits pen.old.view.core ≡ None }
+    requires learned { (past_at pen.old).waits pen.old.view.core ≡ None }
     requires owes { 2 ≤ owed_of ((past_at pen.old).owns pen.old.view.core) None }
     ensures at { IsAtDesk D.view table.now pen.new desk.new }
     ensures goes { PenGoes pen.old pen.new }
@@ -51,7 +51,7 @@ pub fn fail_opened<D: Disk + Drop>(
     faults: u64,
 )
     requires broken { IsBroken D.view table.now pen.old desk.old faults }
-    requires looked { (past_at pen.old).waits pen.old.view.core ≡ None }
+    requires learned { (past_at pen.old).waits pen.old.view.core ≡ None }
     requires owes { 1 ≤ owed_of ((past_at pen.old).owns pen.old.view.core) None }
     ensures at { IsAtDesk D.view table.now pen.new desk.new }
     ensures goes { PenGoes pen.old pen.new }

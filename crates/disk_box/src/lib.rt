@@ -6,7 +6,7 @@ mod entering;
 mod failing;
 mod key;
 mod kind;
-mod looking;
+mod learning;
 mod meaning;
 mod steps;
 mod turns;
@@ -16,7 +16,7 @@ pub use entering::{enter, leave, note};
 pub use failing::{fail_opened, fail_unopened};
 pub use key::BoxKey;
 pub use kind::Kind;
-pub use looking::{halt, look};
+pub use learning::{halt, learn};
 pub use meaning::{BoxMeaning, BoxTable, Pen};
 pub use steps::{
     fill_one, may_place, oldest, open_one, others_write, place_one, shut_one, step_oldest, sync_all,

@@ -38,7 +38,7 @@ module _ (layout : Layout) (before : ℕ) where
   count_stays core (label.Synced now) past rule = omega arith
   count_stays core (label.Opened slot done cut opened) past rule = omega arith
   count_stays core (label.Settled slot turn) past rule = omega arith
-  count_stays core (label.Looked turn) past rule = omega arith
+  count_stays core (label.Learned turn) past rule = omega arith
   count_stays core (label.Placed slot n done) past rule = omega arith
   count_stays core (label.Shut slot done) past rule = omega arith
   count_stays core (label.Idled slot) past rule = omega arith
@@ -66,7 +66,7 @@ module _ (layout : Layout) (before : ℕ) where
   counts_own number core (label.Synced now) past is = absurd (true_not_false (sym is))
   counts_own number core (label.Opened slot done cut opened) past is = absurd (true_not_false (sym is))
   counts_own number core (label.Settled slot turn) past is = absurd (true_not_false (sym is))
-  counts_own number core (label.Looked turn) past is = absurd (true_not_false (sym is))
+  counts_own number core (label.Learned turn) past is = absurd (true_not_false (sym is))
   counts_own number core (label.Placed slot n done) past is = absurd (true_not_false (sym is))
   counts_own number core (label.Shut slot done) past is = absurd (true_not_false (sym is))
   counts_own number core (label.Idled slot) past is = absurd (true_not_false (sym is))

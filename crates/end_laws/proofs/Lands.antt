@@ -237,7 +237,7 @@ module _ (named : Numbered) where
         ]) so
     land_label (label.Settled k turn) at =
         ends_more past turn.commit (turn ∷ []) at.lasts at.opens.grants so (settled_ends k turn at)
-    land_label (label.Looked turn) at = so
+    land_label (label.Learned turn) at = so
     land_label (label.Placed k n done_so) at = so
     land_label (label.Shut k done_so) at = so
     land_label (label.Idled k) at = so

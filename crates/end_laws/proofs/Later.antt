@@ -106,7 +106,7 @@ module _ (layout : Layout) (before : ℕ) (past now : BoxPast) (core : ℕ) (goe
     opens = fewer_open turn.commit;
     turns = more_turns (turn ∷ []);
   }
-  goes_label (label.Looked turn) rule = record { commits = goes.commits; done = goes.done; opens = goes.opens; turns = goes.turns }
+  goes_label (label.Learned turn) rule = record { commits = goes.commits; done = goes.done; opens = goes.opens; turns = goes.turns }
   goes_label (label.Placed slot n done) rule = record { commits = goes.commits; done = goes.done; opens = goes.opens; turns = goes.turns }
   goes_label (label.Shut slot done) rule = record { commits = goes.commits; done = goes.done; opens = goes.opens; turns = goes.turns }
   goes_label (label.Idled slot) rule = record { commits = goes.commits; done = goes.done; opens = goes.opens; turns = goes.turns }

@@ -71,7 +71,7 @@ module _ (stamps : ℕ → ℕ) where
   next_of_work (label.Synced now) log is = tt
   next_of_work (label.Opened slot done cut opened) log is = tt
   next_of_work (label.Settled slot turn) log is = tt
-  next_of_work (label.Looked turn) log is = tt
+  next_of_work (label.Learned turn) log is = tt
   next_of_work (label.Placed slot n done) log is = tt
   next_of_work (label.Shut slot done) log is = tt
   next_of_work (label.Idled slot) log is = tt
@@ -88,7 +88,7 @@ module _ (stamps : ℕ → ℕ) where
   next_of_flight core number flush (label.Synced now) log is = tt
   next_of_flight core number flush (label.Opened slot done cut opened) log is = tt
   next_of_flight core number flush (label.Settled slot turn) log is = tt
-  next_of_flight core number flush (label.Looked turn) log is = tt
+  next_of_flight core number flush (label.Learned turn) log is = tt
   next_of_flight core number flush (label.Placed slot n done) log is = tt
   next_of_flight core number flush (label.Shut slot done) log is = tt
   next_of_flight core number flush (label.Idled slot) log is = tt
@@ -177,7 +177,7 @@ teller_is core (label.Filled slot piece done) busy own has is = some_same (sym h
 teller_is core (label.Synced now) busy own has is = some_same (sym has ∙ is)
 teller_is core (label.Opened slot done cut opened) busy own has is = some_same (sym has ∙ is)
 teller_is core (label.Settled slot turn) busy own has is = some_same (sym has ∙ is)
-teller_is core (label.Looked turn) busy own has is = some_same (sym has ∙ is)
+teller_is core (label.Learned turn) busy own has is = some_same (sym has ∙ is)
 teller_is core (label.Placed slot n done) busy own has is = some_same (sym has ∙ is)
 teller_is core (label.Shut slot done) busy own has is = some_same (sym has ∙ is)
 teller_is core (label.Idled slot) busy own has is = some_same (sym has ∙ is)

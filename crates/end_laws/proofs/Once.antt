@@ -56,7 +56,7 @@ module _ (layout : Layout) where
   label_adds core (label.Synced now) past = ([], sym (append-nil past.turns))
   label_adds core (label.Opened slot done cut opened) past = (cut ∷ opened ∷ [], refl)
   label_adds core (label.Settled slot turn) past = (turn ∷ [], refl)
-  label_adds core (label.Looked turn) past = ([], sym (append-nil past.turns))
+  label_adds core (label.Learned turn) past = ([], sym (append-nil past.turns))
   label_adds core (label.Placed slot n done) past = ([], sym (append-nil past.turns))
   label_adds core (label.Shut slot done) past = ([], sym (append-nil past.turns))
   label_adds core (label.Idled slot) past = ([], sym (append-nil past.turns))

@@ -36,7 +36,7 @@ work_none (label.Filled slot piece done) turn is among = among
 work_none (label.Synced now) turn is among = among
 work_none (label.Opened slot done cut opened) turn is among = is
 work_none (label.Settled slot own) turn is among = among
-work_none (label.Looked own) turn is among = is
+work_none (label.Learned own) turn is among = is
 work_none (label.Placed slot n done) turn is among = among
 work_none (label.Shut slot done) turn is among = among
 work_none (label.Idled slot) turn is among = among
@@ -63,7 +63,7 @@ flight_none core number flush (label.Began filling commit node stamp blocks inod
 flight_none core number flush (label.Filled slot piece done) turn is among refused = among
 flight_none core number flush (label.Synced now) turn is among refused = among
 flight_none core number flush (label.Settled slot own) turn is among refused = among
-flight_none core number flush (label.Looked own) turn is among refused = is
+flight_none core number flush (label.Learned own) turn is among refused = is
 flight_none core number flush (label.Placed slot n done) turn is among refused = among
 flight_none core number flush (label.Shut slot done) turn is among refused = among
 flight_none core number flush (label.Idled slot) turn is among refused = among

@@ -74,7 +74,7 @@ module _ (number : ℕ) (seen : Roomy Seen) (grant : GrantedNumbers) where
     | inl same ↦ not_it (label.Opened slot done cut opened) refl same
     | inr never ↦ never
   ]
-  in_turn stamps core own (turn_lands turn) tells among = elim among [ inl same ↦ not_it (label.Looked turn) refl same | inr never ↦ never ]
+  in_turn stamps core own (turn_lands turn) tells among = elim among [ inl same ↦ not_it (label.Learned turn) refl same | inr never ↦ never ]
   in_turn stamps core own (turn_fails facts cut fail) tells among = elim (in_either facts (label.Noted cut ∷ label.Noted fail ∷ []) it among) [
     | inl step ↦ step_among facts it (works_steps facts tells.is.0) step
     | inr more ↦ elim more [

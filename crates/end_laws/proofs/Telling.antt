@@ -287,7 +287,7 @@ module _ (D : Type 0) (at : MountEnd) (named : Numbered) (ends : MountEnds D at)
   tells_here front back (Told core (label.Synced now)) whole = tt
   tells_here front back (Told core (label.Opened slot done cut opened)) whole = tt
   tells_here front back (Told core (label.Settled slot turn)) whole = tt
-  tells_here front back (Told core (label.Looked turn)) whole = tt
+  tells_here front back (Told core (label.Learned turn)) whole = tt
   tells_here front back (Told core (label.Placed slot n done)) whole = tt
   tells_here front back (Told core (label.Shut slot done)) whole = tt
   tells_here front back (Told core (label.Idled slot)) whole = tt

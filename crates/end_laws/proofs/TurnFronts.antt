@@ -95,7 +95,7 @@ module _ (layout : Layout) (before : ℕ) (begun : BoxPast) (log : List (Event L
         ])
     told_through (label.Settled k turn) whole rule =
         more_told (label.Settled k turn) whole turn [] (λ no_open no_durable. absurd (no_durable rule.is.did_is)) none_more
-    told_through (label.Looked turn) whole rule = so
+    told_through (label.Learned turn) whole rule = so
     told_through (label.Placed k n ok) whole rule = so
     told_through (label.Shut k ok) whole rule = so
     told_through (label.Idled k) whole rule = so

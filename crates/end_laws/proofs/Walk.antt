@@ -177,8 +177,8 @@ module _ (named : Numbered) (layout : Layout) (before moment : ℕ) (first : Spa
         opened_label named layout before moment first log may told stand front core back space so k ok cut opened whole at
     through_label (label.Settled k turn) whole at =
         settled_label named layout before moment first log may told stand front core back space so k turn whole at
-    through_label (label.Looked turn) whole at =
-        same_so (label.Looked turn) whole (record { no_note = λ t e. cc e; no_empty = λ n c o d e. cc e }) refl refl refl
+    through_label (label.Learned turn) whole at =
+        same_so (label.Learned turn) whole (record { no_note = λ t e. cc e; no_empty = λ n c o d e. cc e }) refl refl refl
     through_label (label.Placed k n ok) whole at =
         same_so (label.Placed k n ok) whole (record { no_note = λ t e. cc e; no_empty = λ m c o d e. cc e }) refl refl refl
     through_label (label.Shut k ok) whole at =

@@ -66,9 +66,9 @@ OPEN =
 abbrev pub LAND : List (Event Label)
 LAND =
     other_hold
-    (label.Took ∷ label.Synced 12 ∷ label.Settled 1 (other_act 12 act.Durable) ∷ label.Looked (other_act 12 act.Durable) ∷ [])
+    (label.Took ∷ label.Synced 12 ∷ label.Settled 1 (other_act 12 act.Durable) ∷ label.Learned (other_act 12 act.Durable) ∷ [])
     ++ own_hold
-    (label.Took ∷ label.Synced 13 ∷ label.Settled 0 (own_act 13 act.Durable) ∷ label.Looked (own_act 13 act.Durable) ∷ [])
+    (label.Took ∷ label.Synced 13 ∷ label.Settled 0 (own_act 13 act.Durable) ∷ label.Learned (own_act 13 act.Durable) ∷ [])
 
 -- the first core's commit has number 1, and the second one's number 2
 abbrev pub FILES_NUMBERED : Numbered

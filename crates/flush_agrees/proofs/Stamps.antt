@@ -41,7 +41,7 @@ module _ (layout : Layout) (before : ℕ) where
   label_numbers core (label.Synced now) past may = gives_none refl refl
   label_numbers core (label.Opened slot done cut opened) past may = gives_none refl refl
   label_numbers core (label.Settled slot turn) past may = gives_none refl refl
-  label_numbers core (label.Looked turn) past may = gives_none refl refl
+  label_numbers core (label.Learned turn) past may = gives_none refl refl
   label_numbers core (label.Placed slot n done) past may = gives_none refl refl
   label_numbers core (label.Shut slot done) past may = gives_none refl refl
   label_numbers core (label.Idled slot) past may = gives_none refl refl

@@ -71,7 +71,7 @@ told_within (label.Began filling commit node stamp blocks inodes) core past old 
 told_within (label.Filled slot piece done) core past old new does = same_within new old does
 told_within (label.Synced now) core past old new does = same_within new old does
 told_within (label.Opened slot done cut opened) core past old new does = same_within new old does
-told_within (label.Looked turn) core past old new does = same_within new old does
+told_within (label.Learned turn) core past old new does = same_within new old does
 told_within (label.Placed slot n done) core past old new does = same_within new old does
 told_within (label.Shut slot done) core past old new does = same_within new old does
 told_within (label.Idled slot) core past old new does = same_within new old does

@@ -71,16 +71,16 @@ module _ {D : Type 0} (t : TableState (BoxKey D)) (pen : PenHand D) (holds : Hol
 
   -- it is in its slot
   pub flying : (past_at pen).waits pen.view.core ≡ None → IsFlying (past_at pen).slots (past_at pen).waits pen.view.core flight
-  flying looked = elim flight_fits.is [
+  flying learned = elim flight_fits.is [
     | inl flies ↦ flies
-    | inr landed ↦ absurd (none_some (sym looked ∙ landed.waits_is))
+    | inr landed ↦ absurd (none_some (sym learned ∙ landed.waits_is))
   ]
 
   -- in a phase by whether its gate was written
   pub flight_phase : (view : D → View) (desk : Desk D) (what : Kind) → WorksAtDesk view t pen desk → (past_at pen).waits pen.view.core ≡ None
       → HasKind desk.slots.items flight.slot what → FliesIn what flight.opened
-  flight_phase view desk what work looked has =
-      let fly = flying looked in
+  flight_phase view desk what work learned has =
+      let fly = flying learned in
       let place = place_at pen.table.given.layout flight.slot in
       let fits = (work.fits.slots work.calm).each flight.slot has.slot has.there in
       subst (λ k. FliesIn k flight.opened) has.kind_is
@@ -89,11 +89,11 @@ module _ {D : Type 0} (t : TableState (BoxKey D)) (pen : PenHand D) (holds : Hol
   -- its slot is one of the box's
   pub flight_within : (view : D → View) (desk : Desk D) → WorksAtDesk view t pen desk → (past_at pen).waits pen.view.core ≡ None
       → flight.slot < length desk.slots.items
-  flight_within view desk work looked = elim (below_or flight.slot (length desk.slots.items)) [
+  flight_within view desk work learned = elim (below_or flight.slot (length desk.slots.items)) [
     | inl low ↦ low
     | inr high ↦
         let beyond : slot_count pen.table.given.layout ≤ flight.slot = subst (λ n. n ≤ flight.slot) work.fits.frame.count high in
-        absurd (none_some (sym ((past_fits_at t pen holds).numbers.beyond flight.slot beyond) ∙ (flying looked).there))
+        absurd (none_some (sym ((past_fits_at t pen holds).numbers.beyond flight.slot beyond) ∙ (flying learned).there))
   ]
 
 -- how many turns it may take yet
@@ -113,12 +113,12 @@ works_at view t pen desk at none = record { holds = at.holds; calm = sym at.fits
 
 -- A commit under way, of a core at work for which no turn waits: its slot is one of the box's own, in a phase by whether its gate was written.
 module _ {D : Type 0} (view : D → View) (t : TableState (BoxKey D)) (pen : PenHand D) (desk : Desk D) (work : WorksAtDesk view t pen desk)
-    (looked : (past_at pen).waits pen.view.core ≡ None) (flight : Flight) (opened : Bool) (under : IsUnderWay flight opened (own_at pen)) where
+    (learned : (past_at pen).waits pen.view.core ≡ None) (flight : Flight) (opened : Bool) (under : IsUnderWay flight opened (own_at pen)) where
   pub under_within : flight.slot < length desk.slots.items
-  under_within = flight_within t pen work.holds (flight_of flight opened) under.flies view desk work looked
+  under_within = flight_within t pen work.holds (flight_of flight opened) under.flies view desk work learned
 
   pub under_own : owner pen.table.given.layout flight.slot ≡ pen.view.core
   under_own = flight_own t pen work.holds (flight_of flight opened) under.flies
 
   pub under_phase : (what : Kind) → HasKind desk.slots.items flight.slot what → FliesIn what opened
-  under_phase what has = flight_phase t pen work.holds (flight_of flight opened) under.flies view desk what work looked has
+  under_phase what has = flight_phase t pen work.holds (flight_of flight opened) under.flies view desk what work learned has

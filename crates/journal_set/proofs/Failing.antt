@@ -33,9 +33,9 @@ progress_comes flight core before after (progress.Durable ack) not goes = absurd
 
 -- A call has failed of a commit under way: no turn waits for its core, and it may take its last turns.
 module _ {D V : Type 0} (view : D → View) (t : TableState (BoxKey D)) (before after : PenHand D) (desk : Desk D) (faults : ℕ)
-    (steps : Steps view t {V = V} before after desk (Err faults)) (looked : (past_at before).waits before.view.core ≡ None) where
-  pub still_looked : (past_at after).waits after.view.core ≡ None
-  still_looked = ap (past_at after).waits (core_kept before after steps.goes) ∙ (steps.waits ∙ looked)
+    (steps : Steps view t {V = V} before after desk (Err faults)) (learned : (past_at before).waits before.view.core ≡ None) where
+  pub still_learned : (past_at after).waits after.view.core ≡ None
+  still_learned = ap (past_at after).waits (core_kept before after steps.goes) ∙ (steps.waits ∙ learned)
 
   pub owes_shut : (flight : Flight) → IsUnderWay flight false (own_at after) → 2 ≤ owed_of ((past_at after).owns after.view.core) None
   owes_shut flight under = (let is = owed_at t after steps.err.holds flight false under in omega (arith, is))

@@ -24,7 +24,7 @@ grant_step (label.Noted turn) had step = absurd step
 grant_step (label.Reserved commit seen grant) had step = absurd step
 grant_step (label.Returned commit) had step = absurd step
 grant_step (label.Began filling commit node stamp blocks inodes) had step = absurd step
-grant_step (label.Looked turn) had step = absurd step
+grant_step (label.Learned turn) had step = absurd step
 grant_step (label.Empty commit cut opened durable) had step = absurd step
 
 grant_steps : (core : ℕ) (facts : List Label) (had : Option GrantedNumbers) → AreSteps facts → grant_from (labels_by core facts) had ≡ had

@@ -113,7 +113,7 @@ module _ (layout : Layout) (before core : ℕ) (grant : GrantedNumbers) where
       reserved = reserved_still (label.Settled k t);
       was = kept_but past.opens has.number t.commit grant (λ e. not_in_slot k rule.has (e ∙ rule.is.commit_is)) has.was;
     }
-    others_leave (label.Looked t) rule = record { number = has.number; reserved = reserved_still (label.Looked t); was = has.was }
+    others_leave (label.Learned t) rule = record { number = has.number; reserved = reserved_still (label.Learned t); was = has.was }
     others_leave (label.Placed k n d) rule = record { number = has.number; reserved = reserved_still (label.Placed k n d); was = has.was }
     others_leave (label.Shut k d) rule = record { number = has.number; reserved = reserved_still (label.Shut k d); was = has.was }
     others_leave (label.Idled k) rule = record { number = has.number; reserved = reserved_still (label.Idled k); was = has.was }
@@ -172,7 +172,7 @@ module _ (layout : Layout) (before core : ℕ) (past : BoxPast) (fits : PastFits
         was = kept_but past.opens old.number t.commit grant
             (λ e. fits.numbers.unused core old.number k rule.has.work old.reserved rule.has.there (sym (e ∙ rule.is.commit_is))) old.was;
       }
-  own_says (label.Looked t) rule grant is = has_still (label.Looked t) refl refl grant is
+  own_says (label.Learned t) rule grant is = has_still (label.Learned t) refl refl grant is
   own_says (label.Placed k n d) rule grant is = has_still (label.Placed k n d) refl refl grant is
   own_says (label.Shut k d) rule grant is = has_still (label.Shut k d) refl refl grant is
   own_says (label.Idled k) rule grant is = has_still (label.Idled k) refl refl grant is

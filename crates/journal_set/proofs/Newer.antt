@@ -43,7 +43,7 @@ module _ (layout : Layout) (before core : ℕ) (past : BoxPast) where
   numbers_stay (label.Synced now) rule = omega arith
   numbers_stay (label.Opened slot done cut opened) rule = omega arith
   numbers_stay (label.Settled slot turn) rule = omega arith
-  numbers_stay (label.Looked turn) rule = omega arith
+  numbers_stay (label.Learned turn) rule = omega arith
   numbers_stay (label.Placed slot n done) rule = omega arith
   numbers_stay (label.Shut slot done) rule = omega arith
   numbers_stay (label.Idled slot) rule = omega arith
@@ -77,7 +77,7 @@ reserves_given layout before core past (label.Filled slot piece done) other is =
 reserves_given layout before core past (label.Synced now) other is = absurd (none_some is)
 reserves_given layout before core past (label.Opened slot done cut opened) other is = absurd (none_some is)
 reserves_given layout before core past (label.Settled slot turn) other is = absurd (none_some is)
-reserves_given layout before core past (label.Looked turn) other is = absurd (none_some is)
+reserves_given layout before core past (label.Learned turn) other is = absurd (none_some is)
 reserves_given layout before core past (label.Placed slot n done) other is = absurd (none_some is)
 reserves_given layout before core past (label.Shut slot done) other is = absurd (none_some is)
 reserves_given layout before core past (label.Idled slot) other is = absurd (none_some is)

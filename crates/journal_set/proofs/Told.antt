@@ -39,7 +39,7 @@ quiet_step (label.Noted turn) step none = absurd step
 quiet_step (label.Reserved commit seen grant) step none = absurd step
 quiet_step (label.Returned commit) step none = absurd step
 quiet_step (label.Began filling commit node stamp blocks inodes) step none = absurd step
-quiet_step (label.Looked turn) step none = absurd step
+quiet_step (label.Learned turn) step none = absurd step
 quiet_step (label.Empty commit cut opened durable) step none = absurd step
 
 -- work is of each flight
@@ -57,7 +57,7 @@ work_flight core number flush (label.Noted turn) work = absurd work
 work_flight core number flush (label.Reserved commit seen grant) work = absurd work
 work_flight core number flush (label.Returned commit) work = absurd work
 work_flight core number flush (label.Began filling commit node stamp blocks inodes) work = absurd work
-work_flight core number flush (label.Looked turn) work = absurd work
+work_flight core number flush (label.Learned turn) work = absurd work
 work_flight core number flush (label.Empty commit cut opened durable) work = absurd work
 
 pub works_flight : (core number : ℕ) (flush : Flush) (facts : List Label) → AreOfWork facts → AreOfFlight core number flush facts

@@ -141,7 +141,7 @@ module _ {D : Type 0} where
 
   -- a commit under way has become durable
   pub lands_under : (before after : PenHand D) (turn : Turn) (flight : Flight) (opened : Bool) → IsUnderWay flight opened (own_at before)
-      → Tells (label.Looked turn ∷ []) before after → Lands turn before.view.core (own_at before) (own_at after)
+      → Tells (label.Learned turn ∷ []) before after → Lands turn before.view.core (own_at before) (own_at after)
       → TellsAtBox (TellsLanding before.view.core flight.commit (flush_of flight) turn.now) before after
   lands_under before after turn flight opened under tells lands =
       let same : lands.flight ≡ flight_of flight opened = some_same (sym lands.flew ∙ under.flies) in

@@ -31,8 +31,8 @@ module _ {D : Type 0} (t : TableState (BoxKey D)) (pen : PenHand D) (holds : Hol
   no_flight = ap (λ (o : OwnTold). o.flight) (sym (owns_own t pen holds)) ∙ no_flight_told
 
   -- no turn waits for it
-  pub unbegun_looked : (past_at pen).waits pen.view.core ≡ None
-  unbegun_looked = (past_fits_at t pen holds).flights.idle pen.view.core no_flight_told
+  pub unbegun_learned : (past_at pen).waits pen.view.core ≡ None
+  unbegun_learned = (past_fits_at t pen holds).flights.idle pen.view.core no_flight_told
 
   owed_unbegun : (own : OwnTold) → own.reserved ≡ Some number → own.over ≡ false → owed_of own None ≡ 3
   owed_unbegun own is over = rw over (rw is refl)

@@ -24,17 +24,17 @@ use Rattle.journal_set.specs.Ready.{HasNothingDue}
 use Rattle.journal_set.proofs.Reserved.{owed_most}
 
 -- no turn waits for a core without a flight
-pub looked_none : {D : Type 0} (t : TableState (BoxKey D)) (pen : PenHand D) → HoldsBox t pen → (own_at pen).flight ≡ None
+pub learned_none : {D : Type 0} (t : TableState (BoxKey D)) (pen : PenHand D) → HoldsBox t pen → (own_at pen).flight ≡ None
     → (past_at pen).waits pen.view.core ≡ None
-looked_none t pen holds idle =
+learned_none t pen holds idle =
     (past_fits_at t pen holds).flights.idle pen.view.core (ap (λ (o : OwnTold). o.flight) (owns_own t pen holds) ∙ idle)
 
 -- nor for one that has nothing due
-pub looked_due : {D : Type 0} (t : TableState (BoxKey D)) (pen : PenHand D) → HoldsBox t pen → HasNothingDue (own_at pen)
+pub learned_due : {D : Type 0} (t : TableState (BoxKey D)) (pen : PenHand D) → HoldsBox t pen → HasNothingDue (own_at pen)
     → (past_at pen).waits pen.view.core ≡ None
-looked_due t pen holds rests = elim rests [
+learned_due t pen holds rests = elim rests [
   | inl over ↦ ((past_fits_at t pen holds).over pen.view.core (ap (λ (o : OwnTold). o.over) (owns_own t pen holds) ∙ over)).0
-  | inr none ↦ looked_none t pen holds none.1
+  | inr none ↦ learned_none t pen holds none.1
 ]
 
 -- where none has failed, one that has nothing due has reserved no number and has no flight

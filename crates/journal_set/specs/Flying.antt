@@ -37,7 +37,7 @@ pub record IsUnderWay (flight : Flight) (opened : Bool) (own : OwnTold) : Type 0
 abbrev pub GoesOn : ℕ → OwnTold → OwnTold → Type 0
 GoesOn core before after = (after ≡ before) ⊎ OpensFlight core before after
 
--- Its turn, at which the core has looked, made it durable.
+-- Its turn, of which the core has learned, made it durable.
 pub record LandsWith (ack : Ack) (core : ℕ) (before after : OwnTold) : Type 0 where
   pub turn : Turn
   pub lands : Lands turn core before after

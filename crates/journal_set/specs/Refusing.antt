@@ -1,4 +1,4 @@
--- What comes of looking whether a commit may reserve.
+-- What comes of checking whether a commit may reserve.
 use Rattle.std.specs.Prelude.{◌≡◌, ◌*◌, ◌≤◌, ℕ, suc, List, Some, None}
 use Rattle.sfs_dev.specs.Disk.{View}
 use Rattle.stamp_table.specs.Table.{TableState}

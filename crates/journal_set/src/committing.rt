@@ -149,7 +149,7 @@ impl<D: Disk + Drop> JournalSet<D> {
         unreachable!()
     }
 
-    /// One turn of a commit under way: the core looks whether it is durable, and whether another has failed, and makes one device call at most.
+    /// One turn of a commit under way: the core learns whether it is durable, and whether another has failed, and makes one device call at most.
     pub fn commit_turn<R: Wait>(
         &self,
         rt: &R,

@@ -9,7 +9,7 @@ ghost use Rattle.journal_set.specs.Telling.{IsOneTurn, TellsAtBox, TellsCall, Te
 ghost use Rattle.journal_set.specs.Grants.{grant_at};
 
 use crate::numbering::number_commit;
-use crate::refusing::look_first;
+use crate::refusing::check_first;
 use crate::{Ack, CommitFault, JournalSet};
 use disk_box::{BoxTable, Desk, Fsync, Pen, enter, leave, note};
 use sfs_dev::Disk;
@@ -65,7 +65,7 @@ fn empty_at<D: Disk + Drop>(
     ensures tells { TellsAtBox (empty_labels pen.old.view.core
         (record { flush = fsync_told fsync.node fsync.stamp; seen = seen.now; need = NOTHING }) result) pen.old pen.new }
 {
-    match look_first(table, pen, desk, fsync, seen) {
+    match check_first(table, pen, desk, fsync, seen) {
         Ok(()) => {}
         Err(fault) => return Err(fault),
     }

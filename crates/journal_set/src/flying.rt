@@ -11,7 +11,7 @@ ghost use Rattle.journal_set.specs.Telling.{TellsAtBox, flight_labels};
 use crate::own_slots::{lets_others_write, own_to_place, own_with};
 use crate::{Ack, CommitFault};
 use disk_box::{
-    BoxTable, Desk, Fsync, Kind, Pen, fail_opened, fail_unopened, fill_one, halt, look, open_one,
+    BoxTable, Desk, Fsync, Kind, Pen, fail_opened, fail_unopened, fill_one, halt, learn, open_one,
     place_one, shut_one, sync_all,
 };
 use sfs_dev::Disk;
@@ -41,7 +41,7 @@ pub enum Progress {
     Durable { ack: Ack },
 }
 
-/// One turn of a commit under way, while the core has the box: it looks whether the commit is durable, and whether another has failed, and
+/// One turn of a commit under way, while the core has the box: it learns whether the commit is durable, and whether another has failed, and
 /// makes one device call at most.
 pub(crate) fn turn_at<D: Disk + Drop>(
     table: &BoxTable<D>,
@@ -59,7 +59,7 @@ pub(crate) fn turn_at<D: Disk + Drop>(
     ensures tells { TellsAtBox (flight_labels pen.old.view.core flight.old.commit (flush_of flight.old) result) pen.old pen.new }
     ensures cause { IfErr result (IsCausedBy pen.new) }
 {
-    if let Some(turn) = look(table, pen, desk) {
+    if let Some(turn) = learn(table, pen, desk) {
         let ack = Ack {
             moment: turn.now,
             commit: turn.commit,
@@ -73,7 +73,7 @@ pub(crate) fn turn_at<D: Disk + Drop>(
     advance(table, pen, desk, flight)
 }
 
-// The same, where its core has looked and no commit has failed.
+// The same, where its core has learned that it is not durable, and no commit has failed.
 fn advance<D: Disk + Drop>(
     table: &BoxTable<D>,
     pen: &mut Pen<D>,
@@ -82,7 +82,7 @@ fn advance<D: Disk + Drop>(
 ) -> Result<Progress, CommitFault>
     requires work { WorksAtDesk D.view table.now pen.old desk.old }
     requires under { (opened : Bool) × IsUnderWay flight.old opened (own_at pen.old) }
-    requires looked { (past_at pen.old).waits pen.old.view.core ≡ None }
+    requires learned { (past_at pen.old).waits pen.old.view.core ≡ None }
     ensures at { IsAtDesk D.view table.now pen.new desk.new }
     ensures goes { PenGoes pen.old pen.new }
     ensures room { pen.new.room ≡ pen.old.room }
@@ -110,7 +110,7 @@ fn before_gate<D: Disk + Drop>(
     requires work { WorksAtDesk D.view table.now pen.old desk.old }
     requires within { flight.old.slot < length desk.old.slots.items }
     requires under { IsUnderWay flight.old false (own_at pen.old) }
-    requires looked { (past_at pen.old).waits pen.old.view.core ≡ None }
+    requires learned { (past_at pen.old).waits pen.old.view.core ≡ None }
     ensures at { IsAtDesk D.view table.now pen.new desk.new }
     ensures goes { PenGoes pen.old pen.new }
     ensures room { pen.new.room ≡ pen.old.room }
@@ -138,7 +138,7 @@ fn open_turn<D: Disk + Drop>(
     requires work { WorksAtDesk D.view table.now pen.old desk.old }
     requires kind { HasKind desk.old.slots.items flight.old.slot kind.Sealed }
     requires under { IsUnderWay flight.old false (own_at pen.old) }
-    requires looked { (past_at pen.old).waits pen.old.view.core ≡ None }
+    requires learned { (past_at pen.old).waits pen.old.view.core ≡ None }
     ensures at { IsAtDesk D.view table.now pen.new desk.new }
     ensures goes { PenGoes pen.old pen.new }
     ensures room { pen.new.room ≡ pen.old.room }
@@ -172,7 +172,7 @@ fn settle_turn<D: Disk + Drop>(
 ) -> Result<Progress, CommitFault>
     requires work { WorksAtDesk D.view table.now pen.old desk.old }
     requires under { IsUnderWay flight.old true (own_at pen.old) }
-    requires looked { (past_at pen.old).waits pen.old.view.core ≡ None }
+    requires learned { (past_at pen.old).waits pen.old.view.core ≡ None }
     ensures at { IsAtDesk D.view table.now pen.new desk.new }
     ensures goes { PenGoes pen.old pen.new }
     ensures room { pen.new.room ≡ pen.old.room }

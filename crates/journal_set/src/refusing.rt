@@ -14,9 +14,9 @@ use disk_box::{BoxTable, Desk, Fsync, Pen, halt};
 use sfs_dev::Disk;
 use slot_laws::Seen;
 
-/// Looks whether the core may reserve for a commit of these nodes. It refuses where there is no memory for its turns, where an earlier commit
+/// Checks whether the core may reserve for a commit of these nodes. It refuses where there is no memory for its turns, where an earlier commit
 /// has failed, and where a node has moved.
-pub(crate) fn look_first<D: Disk + Drop>(
+pub(crate) fn check_first<D: Disk + Drop>(
     table: &BoxTable<D>,
     pen: &mut Pen<D>,
     desk: &mut Desk<D>,

@@ -8,7 +8,7 @@ ghost use Rattle.journal_set.specs.Reserving.{Reserves};
 ghost use Rattle.journal_set.specs.Telling.{IsOneTurn, TellsAtBox, TellsCall, reserve_labels};
 
 use crate::numbering::{Numbered, number_commit};
-use crate::refusing::look_first;
+use crate::refusing::check_first;
 use crate::{CommitFault, JournalSet};
 use disk_box::{BoxTable, Desk, Fsync, Pen, enter, leave, note_turn};
 use sfs_base::{NodeId, Stamp};
@@ -70,7 +70,7 @@ fn reserve_at<D: Disk + Drop>(
     ensures tells { TellsAtBox (reserve_labels pen.old.view.core
         (record { flush = fsync_told fsync.node fsync.stamp; seen = seen.now; need = need }) result) pen.old pen.new }
 {
-    match look_first(table, pen, desk, fsync, seen) {
+    match check_first(table, pen, desk, fsync, seen) {
         Ok(()) => grant_or_refuse(alloc, table, pen, desk, fsync, seen, need),
         Err(fault) => Err(fault),
     }

@@ -89,7 +89,7 @@ module _ (disk : View) (layout : Layout) (before core start : ℕ) (past : BoxPa
   told_fits label.Gave rule told = same_run _ refl refl refl refl
   told_fits (label.Reserved commit seen grant) rule told = same_run _ refl refl refl refl
   told_fits (label.Returned commit) rule told = same_run _ refl refl refl refl
-  told_fits (label.Looked turn) rule told = same_run _ refl refl refl refl
+  told_fits (label.Learned turn) rule told = same_run _ refl refl refl refl
   told_fits (label.Noted turn) rule told = record {
     rises = rises_turn start past.turns disk.now fits.rises turn told;
     runs = λ run same moment began well.
@@ -232,7 +232,7 @@ module _ (old new : View) (layout : Layout) (start : ℕ) (past : BoxPast) (lawf
     done_fits (label.Returned commit) rule is = absurd is
     done_fits (label.Began filling commit node stamp blocks inodes) rule is = absurd is
     done_fits (label.Settled slot turn) rule is = absurd is
-    done_fits (label.Looked turn) rule is = absurd is
+    done_fits (label.Learned turn) rule is = absurd is
     done_fits (label.Idled slot) rule is = absurd is
     done_fits (label.Empty commit cut opened durable) rule is = absurd is
 

@@ -63,7 +63,7 @@ module _ (layout : Layout) (before : ℕ) (k : ℕ) where
   counts_label core past (label.Settled j turn) quiet rule it =
       stays_elsewhere past.slots k j (option_map settled_work (past.slots j))
       (not_here past.slots k j false open_gate it rule.has (λ e. absurd (false_not_true e))) it
-  counts_label core past (label.Looked turn) quiet rule it = it
+  counts_label core past (label.Learned turn) quiet rule it = it
   counts_label core past (label.Placed j n done) quiet rule it =
       stays_elsewhere past.slots k j (option_map (knowing (known_placed done n)) (past.slots j))
       (not_here past.slots k j true open_gate it rule.has (λ e gate. open_not_any gate)) it

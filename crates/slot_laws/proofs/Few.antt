@@ -148,7 +148,7 @@ module _ (layout : Layout) (before core : ℕ) (past : BoxPast) (all : PastFits 
   begun_label (label.Synced now) rule = keeps (label.Synced now) refl refl (inl refl)
   begun_label (label.Opened k done cut opened) rule = keeps (label.Opened k done cut opened) refl refl (inl refl)
   begun_label (label.Settled k turn) rule = keeps (label.Settled k turn) refl refl (inl refl)
-  begun_label (label.Looked turn) rule = keeps (label.Looked turn) refl refl (inl refl)
+  begun_label (label.Learned turn) rule = keeps (label.Learned turn) refl refl (inl refl)
   begun_label (label.Placed k n done) rule = keeps (label.Placed k n done) refl refl (inl refl)
   begun_label (label.Shut k done) rule = keeps (label.Shut k done) refl refl (inl refl)
   begun_label (label.Idled k) rule = keeps (label.Idled k) refl refl (inl refl)

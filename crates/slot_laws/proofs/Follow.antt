@@ -195,7 +195,7 @@ module _ (layout : Layout) (before : ℕ) where
   follow_label core past rings follows (label.Settled k turn) rule =
       settled_follows past.slots past.turns k turn rule.has.work (rings, follows) (rule.has.there, rule.has.aloft)
       (record { did = rule.is.did_is; number = rule.is.commit_is; own = rule.is.flush_is })
-  follow_label core past rings follows (label.Looked turn) rule = follows
+  follow_label core past rings follows (label.Learned turn) rule = follows
   follow_label core past rings follows (label.Placed k n done) rule =
       no_more (changed_slot past.slots k (knowing (known_placed done n))) past.turns
       (follow_on past.slots (changed_slot past.slots k (knowing (known_placed done n))) past.turns [] follows

@@ -60,7 +60,7 @@ module _ (layout : Layout) (before : ℕ) (core : CoreId) (past : BoxPast) where
   grants_label (label.Filled k piece done) old new fits rule does held = subst (AreTheirGrants past.opens) (sym does) held
   grants_label (label.Synced now) old new fits rule does held = subst (AreTheirGrants past.opens) (sym does) held
   grants_label (label.Opened k done cut opened) old new fits rule does held = subst (AreTheirGrants past.opens) (sym does) held
-  grants_label (label.Looked turn) old new fits rule does held = subst (AreTheirGrants past.opens) (sym does) held
+  grants_label (label.Learned turn) old new fits rule does held = subst (AreTheirGrants past.opens) (sym does) held
   grants_label (label.Placed k n done) old new fits rule does held = subst (AreTheirGrants past.opens) (sym does) held
   grants_label (label.Shut k done) old new fits rule does held = subst (AreTheirGrants past.opens) (sym does) held
   grants_label (label.Idled k) old new fits rule does held = subst (AreTheirGrants past.opens) (sym does) held
@@ -133,7 +133,7 @@ quiet_step (Told core (label.Began filling commit node stamp blocks inodes)) pas
 quiet_step (Told core (label.Filled slot piece done)) past space quiet = refl
 quiet_step (Told core (label.Synced now)) past space quiet = refl
 quiet_step (Told core (label.Opened slot done cut opened)) past space quiet = refl
-quiet_step (Told core (label.Looked turn)) past space quiet = refl
+quiet_step (Told core (label.Learned turn)) past space quiet = refl
 quiet_step (Told core (label.Placed slot n done)) past space quiet = refl
 quiet_step (Told core (label.Shut slot done)) past space quiet = refl
 quiet_step (Told core (label.Idled slot)) past space quiet = refl
@@ -223,7 +223,7 @@ module _ (core : CoreId) (past : BoxPast) (old new : Space) (number : ℕ) (held
   inodes_stay (label.Filled k piece done) does none taken = same_map inodes_row old new number does taken
   inodes_stay (label.Synced now) does none taken = same_map inodes_row old new number does taken
   inodes_stay (label.Opened k done cut opened) does none taken = same_map inodes_row old new number does taken
-  inodes_stay (label.Looked turn) does none taken = same_map inodes_row old new number does taken
+  inodes_stay (label.Learned turn) does none taken = same_map inodes_row old new number does taken
   inodes_stay (label.Placed k n done) does none taken = same_map inodes_row old new number does taken
   inodes_stay (label.Shut k done) does none taken = same_map inodes_row old new number does taken
   inodes_stay (label.Idled k) does none taken = same_map inodes_row old new number does taken
@@ -248,7 +248,7 @@ module _ (core : CoreId) (past : BoxPast) (old new : Space) (number : ℕ) (held
   blocks_stay (label.Filled k piece done) does none taken = same_map blocks_row old new number does taken
   blocks_stay (label.Synced now) does none taken = same_map blocks_row old new number does taken
   blocks_stay (label.Opened k done cut opened) does none taken = same_map blocks_row old new number does taken
-  blocks_stay (label.Looked turn) does none taken = same_map blocks_row old new number does taken
+  blocks_stay (label.Learned turn) does none taken = same_map blocks_row old new number does taken
   blocks_stay (label.Placed k n done) does none taken = same_map blocks_row old new number does taken
   blocks_stay (label.Shut k done) does none taken = same_map blocks_row old new number does taken
   blocks_stay (label.Idled k) does none taken = same_map blocks_row old new number does taken

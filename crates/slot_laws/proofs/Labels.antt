@@ -20,16 +20,16 @@ use Rattle.slot_laws.specs.declared.label.Label.{Label}
 use Rattle.slot_laws.specs.declared.label.Label.TheVariants as label
 use Rattle.slot_laws.specs.Slots.{open_gate, shut_gate, known_filled, known_placed, known_gated, SlotWork, begun_work, knowing, settled_work, Slots, with_at, changed_slot, synced_slots}
 use Rattle.slot_laws.specs.Labels.{owner, fsync_told, SlotFlight, OwnTold, ends_all, opened_flight, own_label, BoxPast, box_label, after_label}
-use Rattle.slot_laws.specs.Rules.{NotedRule, ReservedRule, BeganRule, OpenedRule, SettledRule, ShutRule, IdledRule, LookedRule, EmptyRule, MayLabel}
+use Rattle.slot_laws.specs.Rules.{NotedRule, ReservedRule, BeganRule, OpenedRule, SettledRule, ShutRule, IdledRule, LearnedRule, EmptyRule, MayLabel}
 use Rattle.slot_laws.specs.Fits.{FlightsFit, TurnsFit, NumbersFit, TimesFit, PastFits}
 use Rattle.slot_laws.specs.declared.label.Seen.{Seen}
 use Rattle.slot_laws.proofs.Basics.{at_same, at_other, parts, own_put, own_same, either_true}
 use Rattle.slot_laws.proofs.Came.{knowing_told}
 use Rattle.slot_laws.proofs.Flying.{SlotsKeep, changed_keeps, synced_keep, kept_fit, begun_fit, idled_fit}
-use Rattle.slot_laws.proofs.Landing.{opened_fit, none_waits, owner_waits, settled_fit, looked_fit}
+use Rattle.slot_laws.proofs.Landing.{opened_fit, none_waits, owner_waits, settled_fit, learned_fit}
 use Rattle.slot_laws.proofs.Numbers.{SlotsCome, known_come, settled_come, synced_come, idled_come, slots_come, numbers_stay, numbers_back, numbers_reserve, numbers_begin}
 use Rattle.slot_laws.proofs.Quiet.{ends_failed, or_some, counts_calm, cut_not_fail, opened_not_fail, durable_not_fail, quiet_more}
-use Rattle.slot_laws.proofs.Turns.{only_own, turns_told, turns_wait, turns_looked, times_more}
+use Rattle.slot_laws.proofs.Turns.{only_own, turns_told, turns_wait, turns_learned, times_more}
 
 -- a core that tells nothing new of itself
 owns_same : (owns : ℕ → OwnTold) (core : ℕ) → with_at owns core (owns core) ≡ owns
@@ -170,7 +170,7 @@ module _ (layout : Layout) (before core : ℕ) (past : BoxPast) (fits : PastFits
   noted turn rule = record {
     flights = flights_same own past.slots past.waits refl fits.flights;
     turns = told_put own (past.turns ++ turn ∷ []) past.waits
-        (turns_told past.turns past.waits (parts told_of past.owns) fits.turns core (turn ∷ []) (only_own core turn rule.own) rule.looked);
+        (turns_told past.turns past.waits (parts told_of past.owns) fits.turns core (turn ∷ []) (only_own core turn rule.own) rule.learned);
     numbers = subst (λ (f : ℕ → Option SlotFlight). NumbersFit layout past.slots (parts reserved_of (with_at past.owns core own)) f past.commits past.stamps)
         (sym (own_same flight_of past.owns core own refl))
         (subst (λ (r : ℕ → Option ℕ). NumbersFit layout past.slots r (parts flight_of past.owns) past.commits past.stamps)
@@ -186,7 +186,7 @@ module _ (layout : Layout) (before core : ℕ) (past : BoxPast) (fits : PastFits
           → (past.waits c ≡ None) × (option_or past.failed (failure_by turn.act turn.faults) ≢ None)
       over_then c e = elim (same_or_not c core) [
         | inl same ↦ elim (either_true (ends_all turn.act) (past.owns core).over (sym (ap over_of (at_same past.owns core own c same)) ∙ e)) [
-          | inl ends ↦ (ap past.waits same ∙ rule.looked, ends_failed before turn.faults turn.act past.failed rule.now.counts ends)
+          | inl ends ↦ (ap past.waits same ∙ rule.learned, ends_failed before turn.faults turn.act past.failed rule.now.counts ends)
           | inr was ↦
               let had = fits.over core was in
               (ap past.waits same ∙ had.0, or_some past.failed (failure_by turn.act turn.faults) had.1)
@@ -260,11 +260,11 @@ module _ (layout : Layout) (before core : ℕ) (past : BoxPast) (fits : PastFits
       rests : (past.owns core).flight ≡ None
       rests = fits.numbers.rests core commit rule.number
 
-  looked : (turn : Turn) → LookedRule core turn past → PastFits layout before (after_label layout core (label.Looked turn) past)
-  looked turn rule = record {
+  learned : (turn : Turn) → LearnedRule core turn past → PastFits layout before (after_label layout core (label.Learned turn) past)
+  learned turn rule = record {
     flights = flights_put own past.slots (with_at past.waits core None)
-        (looked_fit layout past.slots past.waits (parts flight_of past.owns) fits.flights core turn rule.waits);
-    turns = told_put own past.turns (with_at past.waits core None) (turns_looked past.turns past.waits
+        (learned_fit layout past.slots past.waits (parts flight_of past.owns) fits.flights core turn rule.waits);
+    turns = told_put own past.turns (with_at past.waits core None) (turns_learned past.turns past.waits
         (parts told_of past.owns) fits.turns core turn rule.waits);
     numbers = subst (λ (r : ℕ → Option ℕ). NumbersFit layout past.slots r (parts flight_of (with_at past.owns core own)) past.commits past.stamps)
         (sym (own_same reserved_of past.owns core own refl))
@@ -275,7 +275,7 @@ module _ (layout : Layout) (before core : ℕ) (past : BoxPast) (fits : PastFits
   }
     where
       own : OwnTold
-      own = own_label (label.Looked turn) (past.owns core)
+      own = own_label (label.Learned turn) (past.owns core)
 
       over_then : (c : ℕ) → over_of (with_at past.owns core own c) ≡ true → (with_at past.waits core None c ≡ None) × (past.failed ≢ None)
       over_then c e =
@@ -376,7 +376,7 @@ module _ (layout : Layout) (before core : ℕ) (past : BoxPast) (fits : PastFits
   label_fits (label.Synced now) rule = synced now
   label_fits (label.Opened k done cut opened) rule = opened_label k done cut opened rule
   label_fits (label.Settled k turn) rule = settled k turn rule
-  label_fits (label.Looked turn) rule = looked turn rule
+  label_fits (label.Learned turn) rule = learned turn rule
   label_fits (label.Placed k n done) rule = placed k n done
   label_fits (label.Shut k done) rule = shut k done rule
   label_fits (label.Idled k) rule = idled k rule

@@ -1,4 +1,4 @@
--- Flights whose gates are opened, that land, and at which their cores look, go on to fit.
+-- Flights whose gates are opened, that land, and of which their cores learn, go on to fit.
 use Rattle.std.specs.Prelude.{option_map}
 use Rattle.std.proofs.Common.{◌≡◌, ◌≢◌, ◌∙◌, ℕ, Bool, true, false, Option, Some, None, inl, inr, refl, sym, ap, subst}
 use Rattle.sfs_base.proofs.BasicOptions.{some_same}
@@ -193,9 +193,9 @@ module _ (layout : Layout) (slots : Slots) (waits : ℕ → Option Turn) (flight
       ];
     }
 
-  -- a core has looked at the turn that waited for it
-  pub looked_fit : (core : ℕ) (turn : Turn) → waits core ≡ Some turn → FlightsFit layout slots (with_at waits core None) (with_at flights core None)
-  looked_fit core turn waited = record {
+  -- a core has learned of the turn that waited for it
+  pub learned_fit : (core : ℕ) (turn : Turn) → waits core ≡ Some turn → FlightsFit layout slots (with_at waits core None) (with_at flights core None)
+  learned_fit core turn waited = record {
     each = λ other flight flying. elim (same_or_not other core) [
       | inl same ↦ none_there (sym (at_same flights core None other same) ∙ flying)
       | inr apart ↦
@@ -203,7 +203,7 @@ module _ (layout : Layout) (slots : Slots) (waits : ℕ → Option Turn) (flight
           record {
             own = was.own;
             is = elim was.is [
-              | inl flies ↦ inl (flies_looked core other flight apart flies)
+              | inl flies ↦ inl (flies_learned core other flight apart flies)
               | inr lies ↦ inr (record {
                 turn = lies.turn;
                 waits_is = at_other waits core None other apart ∙ lies.waits_is;
@@ -220,7 +220,7 @@ module _ (layout : Layout) (slots : Slots) (waits : ℕ → Option Turn) (flight
           flight = was.flight;
           flies_is = at_other flights core None (owner layout j) away ∙ was.flies_is;
           slot_is = was.slot_is;
-          flies = flies_looked core (owner layout j) was.flight away was.flies;
+          flies = flies_learned core (owner layout j) was.flight away was.flies;
         };
     idle = λ other none. elim (same_or_not other core) [
       | inl same ↦ at_same waits core None other same
@@ -228,9 +228,9 @@ module _ (layout : Layout) (slots : Slots) (waits : ℕ → Option Turn) (flight
     ];
   }
     where
-      flies_looked : (core other : ℕ) (flight : SlotFlight) → other ≢ core → IsFlying slots waits other flight
+      flies_learned : (core other : ℕ) (flight : SlotFlight) → other ≢ core → IsFlying slots waits other flight
           → IsFlying slots (with_at waits core None) other flight
-      flies_looked core other flight apart is = record {
+      flies_learned core other flight apart is = record {
         work = is.work;
         there = is.there;
         commit = is.commit;

@@ -294,8 +294,8 @@ module _ (made : ℕ → CoreCommit) where
         keeps_same past (after_label layout core.0 (label.Synced now) past) refl refl refl keeps
     keeps_label core past (label.Opened k done cut opened) fits rule by keeps =
         keeps_same past (after_label layout core.0 (label.Opened k done cut opened) past) refl refl refl keeps
-    keeps_label core past (label.Looked turn) fits rule by keeps =
-        keeps_same past (after_label layout core.0 (label.Looked turn) past) refl refl refl keeps
+    keeps_label core past (label.Learned turn) fits rule by keeps =
+        keeps_same past (after_label layout core.0 (label.Learned turn) past) refl refl refl keeps
     keeps_label core past (label.Placed k n done) fits rule by keeps =
         keeps_same past (after_label layout core.0 (label.Placed k n done) past) refl refl refl keeps
     keeps_label core past (label.Shut k done) fits rule by keeps =

@@ -109,7 +109,7 @@ module _ (layout : Layout) (before : ℕ) where
   lasts_label core past fits (label.Synced now) rule = fits
   lasts_label core past fits (label.Opened k done cut opened) rule = fits
   lasts_label core past fits (label.Settled k turn) rule = ends_fit past fits turn.commit
-  lasts_label core past fits (label.Looked turn) rule = fits
+  lasts_label core past fits (label.Learned turn) rule = fits
   lasts_label core past fits (label.Placed k n done) rule = fits
   lasts_label core past fits (label.Shut k done) rule = fits
   lasts_label core past fits (label.Idled k) rule = fits
@@ -215,7 +215,7 @@ module _ (number : ℕ) (seen : List Seen) where
   open_label layout core past (label.Synced now) goes it = it
   open_label layout core past (label.Opened k done cut opened) goes it = it
   open_label layout core past (label.Settled k turn) goes it = open_but past.opens turn.commit goes it
-  open_label layout core past (label.Looked turn) goes it = it
+  open_label layout core past (label.Learned turn) goes it = it
   open_label layout core past (label.Placed k n done) goes it = it
   open_label layout core past (label.Shut k done) goes it = it
   open_label layout core past (label.Idled k) goes it = it

@@ -346,7 +346,7 @@ module _ (layout : Layout) (before : ℕ) where
       (marks_as past.slots k (known_gated done open_gate) (λ work n mark. mark))
   rings_label core teller past all fits (label.Settled k turn) rule apart =
       settled_fits past.slots k rule.has.work fits rule.has.there rule.has.aloft
-  rings_label core teller past all fits (label.Looked turn) rule apart = fits
+  rings_label core teller past all fits (label.Learned turn) rule apart = fits
   rings_label core teller past all fits (label.Placed k n done) rule apart =
       rings_move past.slots (changed_slot past.slots k (knowing (known_placed done n))) fits
       (changed_as past.slots k (knowing (known_placed done n))

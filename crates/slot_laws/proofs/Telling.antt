@@ -45,7 +45,7 @@ work_own (label.Reserved commit seen grant) own work = absurd work
 work_own (label.Returned commit) own work = absurd work
 work_own (label.Began filling commit node stamp blocks inodes) own work = absurd work
 work_own (label.Opened slot done cut opened) own work = absurd work
-work_own (label.Looked turn) own work = absurd work
+work_own (label.Learned turn) own work = absurd work
 work_own (label.Empty commit cut opened durable) own work = absurd work
 
 pub works_own : (core : ℕ) (facts : List Label) (own : OwnTold) → AreOfWork facts → own_from (labels_by core facts) own ≡ own
@@ -79,7 +79,7 @@ pens_go_on stamps core mine turns told tells = record {
 label_told : (fact : Label) (own : OwnTold) → (own_label fact own).told ≡ own.told ++ turns_told fact
 label_told (label.Noted turn) own = refl
 label_told (label.Opened slot done cut opened) own = refl
-label_told (label.Looked turn) own = refl
+label_told (label.Learned turn) own = refl
 label_told (label.Empty commit cut opened durable) own = refl
 label_told label.Took own = sym (append-nil own.told)
 label_told label.Gave own = sym (append-nil own.told)
@@ -126,7 +126,7 @@ work_none (label.Reserved commit seen grant) work = absurd work
 work_none (label.Returned commit) work = absurd work
 work_none (label.Began filling commit node stamp blocks inodes) work = absurd work
 work_none (label.Opened slot done cut opened) work = absurd work
-work_none (label.Looked turn) work = absurd work
+work_none (label.Learned turn) work = absurd work
 work_none (label.Empty commit cut opened durable) work = absurd work
 
 pub works_none : (facts : List Label) → AreOfWork facts → flat_map turns_told facts ≡ []
@@ -167,7 +167,7 @@ module _ (core number : ℕ) (flush : Flush) where
   flight_of (label.Reserved commit seen grant) turn of among = absurd of
   flight_of (label.Returned commit) turn of among = absurd of
   flight_of (label.Began filling commit node stamp blocks inodes) turn of among = absurd of
-  flight_of (label.Looked looked) turn of among = absurd of
+  flight_of (label.Learned learned) turn of among = absurd of
   flight_of (label.Empty commit cut opened durable) turn of among = absurd of
 
   flights_of : (facts : List Label) (turn : Turn) → AreOfFlight core number flush facts → IsOneOf (flat_map turns_told facts) turn → IsOf turn

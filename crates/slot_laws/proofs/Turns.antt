@@ -69,10 +69,10 @@ module _ (turns : List Turn) (waits : ℕ → Option Turn) (told : ℕ → List 
         ∙ ap (λ (o : Option Turn). told other ++ waiting_turns o) (sym (at_other waits core (Some turn) other apart))
   ]
 
-  -- and is looked at
-  pub turns_looked : (core : ℕ) (turn : Turn) → waits core ≡ Some turn
+  -- and is learned of
+  pub turns_learned : (core : ℕ) (turn : Turn) → waits core ≡ Some turn
       → TurnsFit turns (with_at waits core None) (with_at told core (told core ++ turn ∷ []))
-  turns_looked core turn waited other = elim (same_or_not other core) [
+  turns_learned core turn waited other = elim (same_or_not other core) [
     | inl same ↦
         subst
         (λ (c : ℕ). turns_of_core c turns ≡ with_at told core (told core ++ turn ∷ []) c ++ waiting_turns (with_at waits core None c)) (sym same)

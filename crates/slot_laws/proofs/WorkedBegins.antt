@@ -91,7 +91,7 @@ may_reserve = (
   (
     (refl, record { calm = refl; next = refl; none = refl; rests = refl; unmoved = one_unmoved (λ _. no_last) 1 0 refl }),
     (
-      (refl, record { own = refl; no_open = λ e. cc; no_durable = λ e. cc; looked = refl; now = record { rises = omega arith; counts = refl } }),
+      (refl, record { own = refl; no_open = λ e. cc; no_durable = λ e. cc; learned = refl; now = record { rises = omega arith; counts = refl } }),
       (
         (refl, tt),
         (
@@ -99,7 +99,7 @@ may_reserve = (
           (
             (refl, record { calm = refl; next = refl; none = refl; rests = refl; unmoved = one_unmoved _ 0 0 refl }),
             (
-              (refl, record { own = refl; no_open = λ e. cc; no_durable = λ e. cc; looked = refl; now = record { rises = omega arith; counts = refl } }),
+              (refl, record { own = refl; no_open = λ e. cc; no_durable = λ e. cc; learned = refl; now = record { rises = omega arith; counts = refl } }),
               (
                 (refl, tt),
                 tt,

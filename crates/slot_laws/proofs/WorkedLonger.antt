@@ -59,7 +59,7 @@ module _ (own other later last : Filling) (own_is : BeginsIn own 0 1 (0 ∷ []))
     (
       (refl, record { calm = refl; next = refl; none = refl; rests = refl; unmoved = one_unmoved _ 1 1 refl }),
       (
-        (refl, record { own = refl; no_open = λ e. cc; no_durable = λ e. cc; looked = refl; now = record { rises = omega arith; counts = refl } }),
+        (refl, record { own = refl; no_open = λ e. cc; no_durable = λ e. cc; learned = refl; now = record { rises = omega arith; counts = refl } }),
         (
           (refl, tt),
           tt,
@@ -185,7 +185,7 @@ module _ (own other later last : Filling) (own_is : BeginsIn own 0 1 (0 ∷ []))
                                   own = refl;
                                   no_open = λ e. cc;
                                   no_durable = λ e. cc;
-                                  looked = refl;
+                                  learned = refl;
                                   now = record { rises = omega arith; counts = refl };
                                 },
                               ),

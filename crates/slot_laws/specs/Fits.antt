@@ -23,7 +23,7 @@ pub record IsFlying (slots : Slots) (waits : ℕ → Option Turn) (core : ℕ) (
   pub read : may_be_open work.known.gate_read ≡ flight.opened
   pub none : waits core ≡ None
 
--- One that is durable has its turn, at which its core has not looked.
+-- One that is durable has its turn, of which its core has not learned.
 pub record Landed (waits : ℕ → Option Turn) (core : ℕ) (flight : SlotFlight) : Type 0 where
   pub turn : Turn
   pub waits_is : waits core ≡ Some turn

@@ -63,7 +63,7 @@ own_label (label.Began filling commit node stamp blocks inodes) own = record own
 }
 own_label (label.Opened slot done cut opened) own =
     record own { flight = option_map opened_flight own.flight; told = own.told ++ cut ∷ opened ∷ [] }
-own_label (label.Looked turn) own = record own { flight = None; told = own.told ++ turn ∷ [] }
+own_label (label.Learned turn) own = record own { flight = None; told = own.told ++ turn ∷ [] }
 own_label (label.Empty commit cut opened durable) own = record own { reserved = None; told = own.told ++ cut ∷ opened ∷ durable ∷ [] }
 own_label _ own = own
 
@@ -73,7 +73,7 @@ pub record BegunCommit : Type 0 where
   pub slots : Slots
   pub work : SlotWork
 
--- What all labels come to: the record of turns; the slots; for each core the turn that made its commit durable, where it has not looked yet, and
+-- What all labels come to: the record of turns; the slots; for each core the turn that made its commit durable, where it has not learned of it yet, and
 -- what it told; how many numbers and commit stamps were given; the count of faults of the failure, where there was one; the core that has the
 -- box; the moment of the last turn, and that of the last sync; the commits that began in slots, as they began; those that wrote nothing; the last
 -- commit of each node; and the commits that have reserved and neither ended nor given back, and those that have ended, in order.
@@ -156,7 +156,7 @@ box_label layout core (label.Settled slot turn) past = record (with_end turn.com
   waits = with_at past.waits (owner layout slot) (Some turn);
   moment = turn.now;
 }
-box_label layout core (label.Looked turn) past = record past { waits = with_at past.waits core None }
+box_label layout core (label.Learned turn) past = record past { waits = with_at past.waits core None }
 box_label layout core (label.Placed slot n done) past = record past { slots = changed_slot past.slots slot (knowing (known_placed done n)) }
 box_label layout core (label.Shut slot done) past = record past { slots = changed_slot past.slots slot (knowing (known_gated done shut_gate)) }
 box_label layout core (label.Idled slot) past = record past { slots = with_at past.slots slot None }

@@ -34,7 +34,7 @@ pub record NotedRule (before core : ℕ) (turn : Turn) (past : BoxPast) : Type 0
   pub own : turn.core.0 ≡ core
   pub no_open : turn.act ≢ act.Opened
   pub no_durable : turn.act ≢ act.Durable
-  pub looked : past.waits core ≡ None
+  pub learned : past.waits core ≡ None
   pub now : IsNextTurn before past turn
 
 -- The next number is reserved, by a core that has none and no flight, and that has seen the last commit of each node that its own concerns, which
@@ -121,8 +121,8 @@ pub record IdledRule (k : ℕ) (past : BoxPast) : Type 0 where
   pub calm : past.failed ≡ None
   pub has : HasWork past.slots k true shut_gate
 
--- A core looks at the turn that waits for it.
-pub record LookedRule (core : ℕ) (turn : Turn) (past : BoxPast) : Type 0 where
+-- A core learns of the turn that waits for it.
+pub record LearnedRule (core : ℕ) (turn : Turn) (past : BoxPast) : Type 0 where
   pub own : turn.core.0 ≡ core
   pub waits : past.waits core ≡ Some turn
 
@@ -156,7 +156,7 @@ MayLabel layout before core (label.Filled slot piece done) past = FilledRule lay
 MayLabel layout before core (label.Synced now) past = past.failed ≡ None
 MayLabel layout before core (label.Opened slot done cut opened) past = OpenedRule layout before core slot cut opened past
 MayLabel layout before core (label.Settled slot turn) past = SettledRule layout before slot turn past
-MayLabel layout before core (label.Looked turn) past = LookedRule core turn past
+MayLabel layout before core (label.Learned turn) past = LearnedRule core turn past
 MayLabel layout before core (label.Placed slot n done) past = PlacedRule slot n past
 MayLabel layout before core (label.Shut slot done) past = ShutRule slot past
 MayLabel layout before core (label.Idled slot) past = IdledRule slot past

@@ -83,7 +83,7 @@ labels_in (turn_returns number turn) = label.Returned number ∷ label.Noted tur
 labels_in (turn_empties number seen cut opened durable) = label.Reserved number seen no_numbers ∷ label.Empty number cut opened durable ∷ []
 labels_in (turn_begins filling number node stamp blocks inodes) = label.Began filling number node stamp blocks inodes ∷ []
 labels_in (turn_opens slot done cut opened) = label.Opened slot done cut opened ∷ []
-labels_in (turn_lands turn) = label.Looked turn ∷ []
+labels_in (turn_lands turn) = label.Learned turn ∷ []
 labels_in (turn_fails facts cut fail) = facts ++ label.Noted cut ∷ label.Noted fail ∷ []
 labels_in (turn_fails_begun facts fail) = facts ++ label.Noted fail ∷ []
 
@@ -170,7 +170,7 @@ PensGoOn = (stamps : ℕ → ℕ) (core : ℕ) (mine : List (Event Label)) (turn
 abbrev pub turns_told : Label → List Turn
 turns_told (label.Noted turn) = turn ∷ []
 turns_told (label.Opened slot done cut opened) = cut ∷ opened ∷ []
-turns_told (label.Looked turn) = turn ∷ []
+turns_told (label.Learned turn) = turn ∷ []
 turns_told (label.Empty commit cut opened durable) = cut ∷ opened ∷ durable ∷ []
 turns_told _ = []
 

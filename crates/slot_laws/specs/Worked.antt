@@ -82,8 +82,8 @@ both_land =
     (label.Took
     ∷ label.Synced 5
     ∷ label.Settled 2 (other_turn 5 0 act.Durable)
-    ∷ label.Settled 0 (own_turn 5 0 act.Durable) ∷ label.Looked (other_turn 5 0 act.Durable) ∷ [])
-    ++ own_hold (label.Took ∷ label.Looked (own_turn 5 0 act.Durable) ∷ [])
+    ∷ label.Settled 0 (own_turn 5 0 act.Durable) ∷ label.Learned (other_turn 5 0 act.Durable) ∷ [])
+    ++ own_hold (label.Took ∷ label.Learned (own_turn 5 0 act.Durable) ∷ [])
 
 -- the record of the older one is placed, and its slot is shut
 abbrev pub one_goes_home : List (Event Label)

@@ -58,7 +58,7 @@ later_lands =
     ∷ label.Filled 3 3 true
     ∷ label.Synced 6
     ∷ label.Opened 3 true (third_turn 7 act.CutAt) (third_turn 7 act.Opened)
-    ∷ label.Synced 8 ∷ label.Settled 3 (third_turn 8 act.Durable) ∷ label.Looked (third_turn 8 act.Durable) ∷ [])
+    ∷ label.Synced 8 ∷ label.Settled 3 (third_turn 8 act.Durable) ∷ label.Learned (third_turn 8 act.Durable) ∷ [])
 
 -- the last one is granted the block, and writes there
 abbrev pub last_reserves : List (Event Label)

@@ -66,7 +66,7 @@ pub enum Label {
         turn: Turn,
     },
     /// The core has found the turn that made its commit durable.
-    Looked {
+    Learned {
         turn: Turn,
     },
     /// A record of a durable commit was placed in the table, or failed to be.

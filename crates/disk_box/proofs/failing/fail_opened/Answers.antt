@@ -13,7 +13,7 @@ pub push-requires : goal.push-requires
 push-requires g c =
     let pen = c.args.pen.now in
     let broken = c.requires.broken in
-    room_for pen.table.given pen.view.core 1 (past_at pen) c.args.desk.now broken.holds.core_is broken.room c.requires.looked c.requires.owes
+    room_for pen.table.given pen.view.core 1 (past_at pen) c.args.desk.now broken.holds.core_is broken.room c.requires.learned c.requires.owes
 
 pub returns-clause-at : goal.returns-clause-at
 returns-clause-at g c =
@@ -22,18 +22,18 @@ returns-clause-at g c =
     let broken = c.requires.broken in
     let by = c.turn.ensures.by in
     let turn : Turn = record c.turn.result { faults = c.args.faults } in
-    let looked = c.requires.looked in
+    let learned = c.requires.learned in
     let moment = broken.frame.moment in
     let now = c.turn.ensures.now in
     let rises : (past_at pen).moment ≤ turn.now = omega (arith, moment, now) in
-    let rule = fail_rule pen.table.given.faults pen.view.core (past_at pen) turn (by.core_is ∙ c.number.ensures) looked rises by.did_is broken.calm
+    let rule = fail_rule pen.table.given.faults pen.view.core (past_at pen) turn (by.core_is ∙ c.number.ensures) learned rises by.did_is broken.calm
     broken.risen
     in
     let low = broken.holds.core_is in
     let over = ap (λ (o : OwnTold). o.over) (own_after pen.table.given.layout pen.view.core (label.Noted turn) (past_at pen))
     ∙ last_over turn ((past_at pen).owns pen.view.core) by.did_is
     in
-    let owes = subst (λ w. 1 ≤ Rattle.disk_box.specs.Desk.owed_of ((past_at pen).owns pen.view.core) w) (sym looked) c.requires.owes in
+    let owes = subst (λ w. 1 ≤ Rattle.disk_box.specs.Desk.owed_of ((past_at pen).owns pen.view.core) w) (sym learned) c.requires.owes in
     let ends = owed_ends pen.table.given.layout.cores pen.view.core 1 (past_at pen)
     (after_label pen.table.given.layout pen.view.core (label.Noted turn) (past_at pen)) low owes over
     (others_after pen.table.given.layout pen.view.core (label.Noted turn) (past_at pen)) (λ other. refl)

@@ -20,14 +20,14 @@ pub push-requires : goal.push-requires
 push-requires g c =
     let pen = c.args.pen.now in
     let broken = c.requires.broken in
-    let room = room_for pen.table.given pen.view.core 2 (past_at pen) c.args.desk.now broken.holds.core_is broken.room c.requires.looked c.requires.owes in
+    let room = room_for pen.table.given pen.view.core 2 (past_at pen) c.args.desk.now broken.holds.core_is broken.room c.requires.learned c.requires.owes in
     omega (arith, room)
 
 pub push-requires-2 : goal.push-requires-2
 push-requires-2 g c =
     let pen = c.args.pen.now in
     let broken = c.requires.broken in
-    let room = room_for pen.table.given pen.view.core 2 (past_at pen) c.args.desk.now broken.holds.core_is broken.room c.requires.looked c.requires.owes in
+    let room = room_for pen.table.given pen.view.core 2 (past_at pen) c.args.desk.now broken.holds.core_is broken.room c.requires.learned c.requires.owes in
     let spare = c.push.ensures.spare in
     omega (arith, room, spare)
 
@@ -45,12 +45,12 @@ returns-clause-at g c =
     let low_moment = broken.frame.moment in
     let calm_desk = broken.frame.failed ∙ broken.calm in
     let cut_faults = c.turn-cut.ensures.faults ∙ (ap (λ f. turn_faults desk.faults f (g.D.Disk.view desk.disk).faults) calm_desk ∙ broken.frame.faults) in
-    let rule = cut_rule pen.table.given.faults pen.view.core (past_at pen) cut (cut_by.core_is ∙ c.number-core.ensures) c.requires.looked
+    let rule = cut_rule pen.table.given.faults pen.view.core (past_at pen) cut (cut_by.core_is ∙ c.number-core.ensures) c.requires.learned
     (omega (arith, low_moment, cut_now)) cut_by.did_is broken.calm cut_faults
     in
     let tells = c.note.ensures.tells in
     let on : GoesOnBroken g.D.Disk.view pen.view.core mid between = cut_goes_on g.D.Disk.view c.args.table.now pen mid cut desk between broken.holds
-    c.note.ensures.holds tells broken.frame broken.space broken.calm c.requires.looked rule cut_by.did_is cut_now refl c.push.ensures.items
+    c.note.ensures.holds tells broken.frame broken.space broken.calm c.requires.learned rule cut_by.did_is cut_now refl c.push.ensures.items
     in
     let core_same : mid.view.core ≡ pen.view.core = ap (λ (v : Sight TreeState (Event Label)). v.core) tells.goes.view in
     let key_same : mid.table.given ≡ pen.table.given = ap (λ (h : PenHand D). h.table.given) tells.goes.frame in
@@ -59,7 +59,7 @@ returns-clause-at g c =
     let now = c.turn.ensures.now in
     let mid_moment = on.frame.moment in
     let fail = fail_rule mid.table.given.faults mid.view.core (past_at mid) turn (by.core_is ∙ (c.number-core.ensures ∙ sym core_same))
-    (ap (λ n. (past_at mid).waits n) core_same ∙ on.looked) (omega (arith, mid_moment, now)) by.did_is on.calm
+    (ap (λ n. (past_at mid).waits n) core_same ∙ on.learned) (omega (arith, mid_moment, now)) by.did_is on.calm
     (subst (λ (k : BoxKey _). Rattle.sfs_base.specs.Ends.HasRisen k.faults c.args.faults) (sym key_same) broken.risen)
     in
     let later = after_label mid.table.given.layout mid.view.core (label.Noted turn) (past_at mid) in
@@ -70,7 +70,7 @@ returns-clause-at g c =
     others_after mid.table.given.layout mid.view.core (label.Noted turn) (past_at mid) other (λ e. not (e ∙ core_same))
     ∙ (ap (λ (p : BoxPast). p.owns other) tells.past ∙ others_after pen.table.given.layout pen.view.core (label.Noted cut) (past_at pen) other not)
     in
-    let owes = subst (λ w. 2 ≤ owed_of ((past_at pen).owns pen.view.core) w) (sym c.requires.looked) c.requires.owes in
+    let owes = subst (λ w. 2 ≤ owed_of ((past_at pen).owns pen.view.core) w) (sym c.requires.learned) c.requires.owes in
     let ends = owed_ends pen.table.given.layout.cores pen.view.core 2 (past_at pen) later broken.holds.core_is owes over others
     (λ other. ap (λ (p : BoxPast). p.waits other) tells.past)
     in

@@ -10,7 +10,7 @@ use Rattle.journal_set.proofs.ToldCalls.{empty_told}
 use Rattle.journal_set.proofs.Told.{tells_nothing}
 
 pub returns-in-Err-clause-comes : goal.returns-in-Err-clause-comes
-returns-in-Err-clause-comes g c = empties_refused (fsync_told c.args.fsync.node c.args.fsync.stamp) c.args.seen.now c.args.pen.now c.look_first.new.pen
+returns-in-Err-clause-comes g c = empties_refused (fsync_told c.args.fsync.node c.args.fsync.stamp) c.args.seen.now c.args.pen.now c.check_first.new.pen
     c.in-Err.fault (c.in-Err.ensures.err NOTHING)
 
 pub end_at_once-requires-clause-grant : goal.end_at_once-requires-clause-grant
@@ -25,7 +25,7 @@ end_at_once-requires-clause-goes_on g c κs within =
 
 pub returns-clause-comes : goal.returns-clause-comes
 returns-clause-comes g c =
-    let start = c.look_first.new.pen in
+    let start = c.check_first.new.pen in
     let mid = c.number_commit.new.pen in
     let ok = c.in-Ok-number_commit.ensures.ok in
     let ack = c.end_at_once.result in
@@ -51,7 +51,7 @@ returns-in-Err-clause-tells g c = c.in-Err.ensures.tells
 
 pub returns-clause-tells : goal.returns-clause-tells
 returns-clause-tells g c =
-    let start = c.look_first.new.pen in
+    let start = c.check_first.new.pen in
     let mid = c.number_commit.new.pen in
     let ok = c.in-Ok-number_commit.ensures.ok in
     let ack = c.end_at_once.result in

@@ -3,23 +3,23 @@ use Rattle.disk_box.specs.Pens.{own_at}
 use Rattle.journal_set.specs.Flying.{IsUnderWay, flush_of}
 use Rattle.journal_set.specs.Telling.{flight_labels}
 use Rattle.journal_set.proofs.Aloft.{under_own}
-use Rattle.journal_set.proofs.Failing.{at_of_work, fails_shut, owes_shut, progress_comes, risen_still, still_looked}
+use Rattle.journal_set.proofs.Failing.{at_of_work, fails_shut, owes_shut, progress_comes, risen_still, still_learned}
 use Rattle.journal_set.proofs.flying.before_gate.Goals as goal
 use Rattle.journal_set.proofs.Told.{tells_work}
 use Rattle.journal_set.proofs.ToldCommits.{going_is, fails_in_slot}
 
 pub fill_or_seal-requires-clause-own : goal.fill_or_seal-requires-clause-own
 fill_or_seal-requires-clause-own g c κs within =
-    under_own g.D.Disk.view c.args.table.now c.args.pen.now c.args.desk.now c.requires.work c.requires.looked c.args.flight.now false c.requires.under
+    under_own g.D.Disk.view c.args.table.now c.args.pen.now c.args.desk.now c.requires.work c.requires.learned c.args.flight.now false c.requires.under
 
-pub fail_unopened-requires-clause-looked : goal.fail_unopened-requires-clause-looked
-fail_unopened-requires-clause-looked g c κs within = still_looked g.D.Disk.view c.args.table.now c.args.pen.now c.fill_or_seal.new.pen
-    c.fill_or_seal.new.desk c.in-Err.faults c.in-Err.ensures.steps c.requires.looked
+pub fail_unopened-requires-clause-learned : goal.fail_unopened-requires-clause-learned
+fail_unopened-requires-clause-learned g c κs within = still_learned g.D.Disk.view c.args.table.now c.args.pen.now c.fill_or_seal.new.pen
+    c.fill_or_seal.new.desk c.in-Err.faults c.in-Err.ensures.steps c.requires.learned
 
 pub fail_unopened-requires-clause-owes : goal.fail_unopened-requires-clause-owes
 fail_unopened-requires-clause-owes g c κs within =
     owes_shut g.D.Disk.view c.args.table.now c.args.pen.now c.fill_or_seal.new.pen c.fill_or_seal.new.desk c.in-Err.faults c.in-Err.ensures.steps
-    c.requires.looked
+    c.requires.learned
     c.args.flight.now (subst (IsUnderWay c.args.flight.now false) (sym c.fill_or_seal.ensures.own) c.requires.under)
 
 pub returns-in-Ok-clause-at : goal.returns-in-Ok-clause-at
@@ -38,7 +38,7 @@ returns-in-Err-clause-comes g c =
 
 pub returns-in-Err-clause-cause : goal.returns-in-Err-clause-cause
 returns-in-Err-clause-cause g c = risen_still g.D.Disk.view c.args.table.now c.args.pen.now c.fill_or_seal.new.pen c.fill_or_seal.new.desk c.in-Err.faults
-    c.in-Err.ensures.steps c.requires.looked
+    c.in-Err.ensures.steps c.requires.learned
     c.fail_unopened.new.pen c.fail_unopened.ensures.goes
 
 pub returns-in-Err-clause-goes : goal.returns-in-Err-clause-goes

@@ -3,7 +3,7 @@ use Rattle.disk_box.specs.Pens.{own_at}
 use Rattle.journal_set.specs.Telling.{TellsGoing}
 use Rattle.journal_set.specs.Flying.{flush_of}
 use Rattle.journal_set.proofs.Aloft.{under_own}
-use Rattle.journal_set.proofs.Failing.{at_of_work, fails_opened, owes_opened, risen_still, still_looked}
+use Rattle.journal_set.proofs.Failing.{at_of_work, fails_opened, owes_opened, risen_still, still_learned}
 use Rattle.journal_set.proofs.Turned.{goes_twice, opened_under}
 use Rattle.journal_set.proofs.flying.open_turn.Goals as goal
 use Rattle.journal_set.proofs.ToldCommits.{opens_under, fails_opening}
@@ -11,15 +11,15 @@ use Rattle.journal_set.proofs.Told.{tells_nothing}
 
 pub open_one-requires-clause-own : goal.open_one-requires-clause-own
 open_one-requires-clause-own g c κs within =
-    under_own g.D.Disk.view c.args.table.now c.args.pen.now c.args.desk.now c.requires.work c.requires.looked c.args.flight.now false c.requires.under
+    under_own g.D.Disk.view c.args.table.now c.args.pen.now c.args.desk.now c.requires.work c.requires.learned c.args.flight.now false c.requires.under
 
-pub fail_opened-requires-clause-looked : goal.fail_opened-requires-clause-looked
-fail_opened-requires-clause-looked g c κs within = still_looked g.D.Disk.view c.args.table.now c.args.pen.now c.open_one.new.pen c.open_one.new.desk
-    c.in-Err.faults c.in-Err.ensures.steps c.requires.looked
+pub fail_opened-requires-clause-learned : goal.fail_opened-requires-clause-learned
+fail_opened-requires-clause-learned g c κs within = still_learned g.D.Disk.view c.args.table.now c.args.pen.now c.open_one.new.pen c.open_one.new.desk
+    c.in-Err.faults c.in-Err.ensures.steps c.requires.learned
 
 pub fail_opened-requires-clause-owes : goal.fail_opened-requires-clause-owes
 fail_opened-requires-clause-owes g c κs within =
-    owes_opened g.D.Disk.view c.args.table.now c.args.pen.now c.open_one.new.pen c.open_one.new.desk c.in-Err.faults c.in-Err.ensures.steps c.requires.looked
+    owes_opened g.D.Disk.view c.args.table.now c.args.pen.now c.open_one.new.pen c.open_one.new.desk c.in-Err.faults c.in-Err.ensures.steps c.requires.learned
     c.args.flight.now (opened_under c.args.flight.now false c.args.pen.now.view.core (own_at c.args.pen.now) (own_at c.open_one.new.pen) c.requires.under
     c.open_one.ensures.own)
 
@@ -38,7 +38,7 @@ returns-in-Err-clause-comes g c =
 
 pub returns-in-Err-clause-cause : goal.returns-in-Err-clause-cause
 returns-in-Err-clause-cause g c = risen_still g.D.Disk.view c.args.table.now c.args.pen.now c.open_one.new.pen c.open_one.new.desk c.in-Err.faults
-    c.in-Err.ensures.steps c.requires.looked
+    c.in-Err.ensures.steps c.requires.learned
     c.fail_opened.new.pen c.fail_opened.ensures.goes
 
 pub returns-in-Err-clause-goes : goal.returns-in-Err-clause-goes

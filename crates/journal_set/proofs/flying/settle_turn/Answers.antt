@@ -1,20 +1,20 @@
 use Rattle.std.proofs.Common.{inl, true, sym, subst}
 use Rattle.journal_set.specs.Flying.{IsUnderWay, flush_of}
 use Rattle.journal_set.specs.Telling.{TellsGoing}
-use Rattle.journal_set.proofs.Failing.{at_of_work, fails_opened, owes_opened, risen_still, still_looked}
+use Rattle.journal_set.proofs.Failing.{at_of_work, fails_opened, owes_opened, risen_still, still_learned}
 use Rattle.journal_set.proofs.Turned.{goes_twice}
 use Rattle.journal_set.proofs.flying.settle_turn.Goals as goal
 use Rattle.journal_set.proofs.Told.{tells_work}
 use Rattle.journal_set.proofs.ToldCommits.{fails_working}
 
-pub fail_opened-requires-clause-looked : goal.fail_opened-requires-clause-looked
-fail_opened-requires-clause-looked g c κs within = still_looked g.D.Disk.view c.args.table.now c.args.pen.now c.shut_or_settle.new.pen
-    c.shut_or_settle.new.desk c.in-Err.faults c.in-Err.ensures.steps c.requires.looked
+pub fail_opened-requires-clause-learned : goal.fail_opened-requires-clause-learned
+fail_opened-requires-clause-learned g c κs within = still_learned g.D.Disk.view c.args.table.now c.args.pen.now c.shut_or_settle.new.pen
+    c.shut_or_settle.new.desk c.in-Err.faults c.in-Err.ensures.steps c.requires.learned
 
 pub fail_opened-requires-clause-owes : goal.fail_opened-requires-clause-owes
 fail_opened-requires-clause-owes g c κs within =
     owes_opened g.D.Disk.view c.args.table.now c.args.pen.now c.shut_or_settle.new.pen c.shut_or_settle.new.desk c.in-Err.faults c.in-Err.ensures.steps
-    c.requires.looked
+    c.requires.learned
     c.args.flight.now (subst (IsUnderWay c.args.flight.now true) (sym c.shut_or_settle.ensures.own) c.requires.under)
 
 pub returns-in-Ok-clause-at : goal.returns-in-Ok-clause-at
@@ -31,7 +31,7 @@ returns-in-Err-clause-comes g c =
 
 pub returns-in-Err-clause-cause : goal.returns-in-Err-clause-cause
 returns-in-Err-clause-cause g c = risen_still g.D.Disk.view c.args.table.now c.args.pen.now c.shut_or_settle.new.pen c.shut_or_settle.new.desk
-    c.in-Err.faults c.in-Err.ensures.steps c.requires.looked
+    c.in-Err.faults c.in-Err.ensures.steps c.requires.learned
     c.fail_opened.new.pen c.fail_opened.ensures.goes
 
 pub returns-in-Err-clause-goes : goal.returns-in-Err-clause-goes

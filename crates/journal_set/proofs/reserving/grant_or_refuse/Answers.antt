@@ -20,7 +20,7 @@ use Rattle.journal_set.specs.Telling.{TellsAtBox, TellsOf, TellsNothing}
 use Rattle.journal_set.proofs.Lacking.{finds_short}
 use Rattle.journal_set.proofs.Nothing.{over_calm}
 use Rattle.journal_set.proofs.Parts.{grant_more, reserved_later}
-use Rattle.journal_set.proofs.Working.{calm_faults, looked_none, room_beside}
+use Rattle.journal_set.proofs.Working.{calm_faults, learned_none, room_beside}
 use Rattle.journal_set.proofs.reserving.grant_or_refuse.Goals as goal
 use Rattle.journal_set.proofs.Told.{tells_nothing}
 use Rattle.journal_set.proofs.Turned.{core_kept}
@@ -39,7 +39,7 @@ note_turn-requires-clause-may g c κs within =
     let moment = work.fits.frame.moment in
     let now = c.turn-turn.ensures.now in
     short_rule pen.table.given.faults pen.view.core (past_at pen) c.turn-turn.result (by.core_is ∙ c.number.ensures)
-    (looked_none t pen work.holds idle) (omega (arith, moment, now)) c.in-Err-NoSpace.kind c.in-Err-NoSpace.need c.in-Err-NoSpace.free by.did_is work.calm
+    (learned_none t pen work.holds idle) (omega (arith, moment, now)) c.in-Err-NoSpace.kind c.in-Err-NoSpace.need c.in-Err-NoSpace.free by.did_is work.calm
     (calm_faults g.D.Disk.view pen.table.given (past_at pen) desk c.turn-turn.result work.fits.frame work.calm c.turn-turn.ensures.faults)
 
 pub note_turn-requires-clause-room : goal.note_turn-requires-clause-room
@@ -67,7 +67,7 @@ note_turn-requires-2-clause-may g c κs within =
     let moment = ok.work.fits.frame.moment in
     let now = c.turn-turn-2.ensures.now in
     granted_rule pen.table.given.faults pen.view.core (past_at pen) c.turn-turn-2.result (by.core_is ∙ c.number-2.ensures)
-    (looked_none t pen ok.work.holds idle) (omega (arith, moment, now)) by.did_is ok.work.calm
+    (learned_none t pen ok.work.holds idle) (omega (arith, moment, now)) by.did_is ok.work.calm
     (calm_faults g.D.Disk.view pen.table.given (past_at pen) c.number_commit.new.desk c.turn-turn-2.result ok.work.fits.frame ok.work.calm
     c.turn-turn-2.ensures.faults)
 

@@ -6,7 +6,7 @@ use Rattle.disk_box.specs.Pens.{past_at}
 use Rattle.disk_box.proofs.Owners.{owner_is, slots_many, waits_some}
 use Rattle.journal_set.specs.OwnSlots.{NoneIdle}
 use Rattle.journal_set.proofs.Aloft.{works_at}
-use Rattle.journal_set.proofs.Unbegun.{its_reserved, owes_unbegun, some_reserved, unbegun_looked}
+use Rattle.journal_set.proofs.Unbegun.{its_reserved, owes_unbegun, some_reserved, unbegun_learned}
 use Rattle.journal_set.proofs.waiting.begin_at.Goals as goal
 
 pub unreachable-requires : goal.unreachable-requires
@@ -14,9 +14,9 @@ unreachable-requires g c =
     some_reserved g.D.Disk.view c.args.table.now c.args.pen.now c.args.desk.now c.args.writing.grant c.requires.at c.requires.grant
     (ap (number_in c.args.desk.now.ledger) (sym c.number-core.ensures) ∙ (sym c.number.ensures ∙ c.in_default.is))
 
-pub halt-faults-requires-clause-looked : goal.halt-faults-requires-clause-looked
-halt-faults-requires-clause-looked g c κs within =
-    unbegun_looked c.args.table.now c.args.pen.now c.requires.at.holds c.in-Some.number
+pub halt-faults-requires-clause-learned : goal.halt-faults-requires-clause-learned
+halt-faults-requires-clause-learned g c κs within =
+    unbegun_learned c.args.table.now c.args.pen.now c.requires.at.holds c.in-Some.number
     (its_reserved g.D.Disk.view c.args.table.now c.args.pen.now c.args.desk.now c.args.writing.grant c.requires.at c.requires.grant c.in-Some.number
     (ap (number_in c.args.desk.now.ledger) (sym c.number-core.ensures) ∙ (sym c.number.ensures ∙ c.in-Some.is)))
 

@@ -6,11 +6,11 @@ use Rattle.disk_box.specs.Pens.{own_at, past_at}
 use Rattle.disk_box.specs.Turns.{Fails}
 use Rattle.disk_box.proofs.Owners.{slots_many, waits_some}
 use Rattle.journal_set.specs.Telling.{OfReserved, TellsWork, TellsFailing}
-use Rattle.journal_set.proofs.Failing.{at_of_work, risen_still, still_looked}
+use Rattle.journal_set.proofs.Failing.{at_of_work, risen_still, still_learned}
 use Rattle.journal_set.proofs.GrantKept.{grant_kept}
 use Rattle.journal_set.proofs.Lingering.{own_slot, some_lingers}
 use Rattle.journal_set.proofs.Turned.{core_kept, goes_twice}
-use Rattle.journal_set.proofs.Unbegun.{no_flight_told, owes_unbegun, unbegun_looked}
+use Rattle.journal_set.proofs.Unbegun.{no_flight_told, owes_unbegun, unbegun_learned}
 use Rattle.journal_set.proofs.waiting.free_slot.Goals as goal
 use Rattle.journal_set.proofs.Told.{tells_work, tells_failing, tells_nothing}
 use Rattle.journal_set.proofs.ToldCommits.{at_through}
@@ -36,10 +36,10 @@ pub lets_others_write-requires-clause-slots : goal.lets_others_write-requires-cl
 lets_others_write-requires-clause-slots g c = slots_many g.D.Disk.view c.args.pen.now.table.given (past_at c.args.pen.now) c.args.desk.now
     c.requires.work.fits.frame
 
-pub fail_unopened-requires-clause-looked : goal.fail_unopened-requires-clause-looked
-fail_unopened-requires-clause-looked g c κs within = still_looked g.D.Disk.view c.args.table.now c.args.pen.now c.step_oldest.new.pen c.step_oldest.new.desk
+pub fail_unopened-requires-clause-learned : goal.fail_unopened-requires-clause-learned
+fail_unopened-requires-clause-learned g c κs within = still_learned g.D.Disk.view c.args.table.now c.args.pen.now c.step_oldest.new.pen c.step_oldest.new.desk
     c.in-Err.faults c.in-Err.ensures.steps
-    (unbegun_looked c.args.table.now c.args.pen.now c.requires.work.holds c.args.number c.requires.number)
+    (unbegun_learned c.args.table.now c.args.pen.now c.requires.work.holds c.args.number c.requires.number)
 
 pub fail_unopened-requires-clause-owes : goal.fail_unopened-requires-clause-owes
 fail_unopened-requires-clause-owes g c κs within =
@@ -71,7 +71,7 @@ returns-in-Err-clause-comes g c = record {
 pub returns-in-Err-clause-cause : goal.returns-in-Err-clause-cause
 returns-in-Err-clause-cause g c = risen_still g.D.Disk.view c.args.table.now c.args.pen.now c.step_oldest.new.pen c.step_oldest.new.desk c.in-Err.faults
     c.in-Err.ensures.steps
-    (unbegun_looked c.args.table.now c.args.pen.now c.requires.work.holds c.args.number c.requires.number)
+    (unbegun_learned c.args.table.now c.args.pen.now c.requires.work.holds c.args.number c.requires.number)
     c.fail_unopened.new.pen c.fail_unopened.ensures.goes
 
 pub returns-in-Err-clause-goes : goal.returns-in-Err-clause-goes

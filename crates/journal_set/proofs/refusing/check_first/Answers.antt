@@ -6,13 +6,13 @@ use Rattle.disk_box.specs.declared.desk.Desk.{Desk}
 use Rattle.disk_box.specs.Pens.{past_at}
 use Rattle.disk_box.specs.Box.{SpaceFits}
 use Rattle.journal_set.specs.Telling.{TellsNothing}
-use Rattle.journal_set.proofs.Working.{desk_roomier, looked_due, nothing_due, room_beside}
-use Rattle.journal_set.proofs.refusing.look_first.Goals as goal
+use Rattle.journal_set.proofs.Working.{desk_roomier, learned_due, nothing_due, room_beside}
+use Rattle.journal_set.proofs.refusing.check_first.Goals as goal
 use Rattle.journal_set.proofs.ToldCommits.{wants_memory, halts_told}
 use Rattle.journal_set.proofs.Told.{tells_nothing}
 
-pub halt-faults-requires-clause-looked : goal.halt-faults-requires-clause-looked
-halt-faults-requires-clause-looked g c κs within = looked_due c.args.table.now c.args.pen.now c.requires.at.holds c.requires.rests
+pub halt-faults-requires-clause-learned : goal.halt-faults-requires-clause-learned
+halt-faults-requires-clause-learned g c κs within = learned_due c.args.table.now c.args.pen.now c.requires.at.holds c.requires.rests
 
 pub halt-faults-requires-clause-room : goal.halt-faults-requires-clause-room
 halt-faults-requires-clause-room g c κs within =

@@ -13,8 +13,8 @@ use sfs_dev::Disk;
 use slot_laws::Label;
 use tree_laws::{Turn, TurnAct};
 
-/// Looks whether the core's commit has become durable, by whose sync ever, and answers its turn.
-pub fn look<D: Disk + Drop>(
+/// Learns whether the core's commit has become durable, by whose sync ever, and answers its turn.
+pub fn learn<D: Disk + Drop>(
     table: &BoxTable<D>,
     pen: &mut Pen<D>,
     desk: &mut Desk<D>,
@@ -25,12 +25,12 @@ pub fn look<D: Disk + Drop>(
     ensures room { pen.new.room ≡ pen.old.room }
     ensures none { IfNone result ((pen.new ≡ pen.old) × (desk.new ≡ desk.old) × ((past_at pen.old).waits pen.old.view.core ≡ None)) }
     ensures some { IfSome result (λ turn. Lands turn pen.old.view.core (own_at pen.old) (own_at pen.new)) }
-    ensures tells { IfSome result (λ turn. Tells (label.Looked turn ∷ []) pen.old pen.new) }
+    ensures tells { IfSome result (λ turn. Tells (label.Learned turn ∷ []) pen.old pen.new) }
 {
     let core = pen.number().0 as usize;
     let turn = desk.waits[core]?;
     desk.waits[core] = None;
-    note(table, pen, &Label::Looked { turn });
+    note(table, pen, &Label::Learned { turn });
     Some(turn)
 }
 
@@ -44,7 +44,7 @@ pub fn halt<D: Disk + Drop>(
 ) -> u64
     requires at { IsAtDesk D.view table.now pen.old desk.old }
     requires failed { IsSome desk.old.failed }
-    requires looked { (past_at pen.old).waits pen.old.view.core ≡ None }
+    requires learned { (past_at pen.old).waits pen.old.view.core ≡ None }
     requires room { (owed_by pen.old.table.given.layout.cores (past_at pen.old) < desk.old.turns.spare)
         ⊎ (0 < owed_of ((past_at pen.old).owns pen.old.view.core) None) }
     ensures at { IsAtDesk D.view table.now pen.new desk.new }

@@ -1,4 +1,4 @@
--- A core looks at the turn that waits for it.
+-- A core learns of the turn that waits for it.
 use Rattle.disk_box.specs.Desk.{GoesOnSince, HaveFew}
 use Rattle.std.proofs.Common.{◌≡◌, ◌≢◌, ◌<◌, ◌≤◌, ◌∙◌, ℕ, true, false, List, [], length, slice_set, Option, Some, None, IsSome, inl, inr, refl, sym, ap, subst, arith, option_map, max}
 use Rattle.sfs_base.proofs.BasicOptions.{none_some, some_same}
@@ -8,7 +8,7 @@ use Rattle.tree_laws.specs.declared.turns.TurnAct.TheVariants as act
 use Rattle.merge_laws.proofs.Blocks.{same_or_not}
 use Rattle.slot_laws.specs.Slots.{with_at}
 use Rattle.slot_laws.specs.Labels.{BoxPast, OwnTold, SlotFlight, after_label, own_label}
-use Rattle.slot_laws.specs.Rules.{IsTurnBy, LookedRule}
+use Rattle.slot_laws.specs.Rules.{IsTurnBy, LearnedRule}
 use Rattle.slot_laws.specs.Fits.{PastFits, Landed}
 use Rattle.slot_laws.specs.declared.label.Label.TheVariants as label
 use Rattle.slot_laws.proofs.Basics.{at_same, at_other}
@@ -43,10 +43,10 @@ module _ {D : Type 0} (key : BoxKey D) (core : ℕ) (past : BoxPast) (fits : Pas
   pub landed_by : IsTurnBy turn act.Durable core flew.0.commit flew.0.flush
   landed_by = subst (λ (t : Turn). IsTurnBy t act.Durable core flew.0.commit flew.0.flush) same_turn flew.2.turn_is
 
-  pub looked_rule : LookedRule core turn past
-  looked_rule = record { own = landed_by.core_is; waits = waits }
+  pub learned_rule : LearnedRule core turn past
+  learned_rule = record { own = landed_by.core_is; waits = waits }
 
-  pub lands : Lands turn core (past.owns core) (own_label (label.Looked turn) (past.owns core))
+  pub lands : Lands turn core (past.owns core) (own_label (label.Learned turn) (past.owns core))
   lands = record { flight = flew.0; flew = flew.1; opened = flew.2.opened; by = landed_by; after_is = refl }
 
   -- it has reserved no number
@@ -58,11 +58,11 @@ module _ {D : Type 0} (key : BoxKey D) (core : ℕ) (past : BoxPast) (fits : Pas
   none_reserved = reserved_so (past.owns core).reserved refl
 
   abbrev later : BoxPast
-  later = after_label key.layout core (label.Looked turn) past
+  later = after_label key.layout core (label.Learned turn) past
 
   -- what it owes, and its open commit: none before, since a turn waited, and none behind
-  owns_now : later.owns core ≡ own_label (label.Looked turn) (past.owns core)
-  owns_now = own_after key.layout core (label.Looked turn) past
+  owns_now : later.owns core ≡ own_label (label.Learned turn) (past.owns core)
+  owns_now = own_after key.layout core (label.Learned turn) past
 
   waits_now : later.waits core ≡ None
   waits_now = at_same past.waits core None core refl
@@ -72,31 +72,31 @@ module _ {D : Type 0} (key : BoxKey D) (core : ℕ) (past : BoxPast) (fits : Pas
       ap (λ (z : Option ℕ × Option SlotFlight). Rattle.std.specs.Option.option_or (option_map (λ number. (number, false)) z.0)
       (option_map (λ (f : SlotFlight). (f.commit, true)) z.1)) (λ i. (none i, idle i))
 
-  pub open_looked : (other : ℕ) → open_for (later.owns other) (later.waits other) ≡ open_for (past.owns other) (past.waits other)
-  open_looked other = elim (same_or_not other core) [
+  pub open_learned : (other : ℕ) → open_for (later.owns other) (later.waits other) ≡ open_for (past.owns other) (past.waits other)
+  open_learned other = elim (same_or_not other core) [
     | inl same ↦
         ap (λ c. open_for (later.owns c) (later.waits c)) same
         ∙ ((λ i. open_for (owns_now i) (waits_now i))
-        ∙ (nothing_open (own_label (label.Looked turn) (past.owns core)) none_reserved refl
+        ∙ (nothing_open (own_label (label.Learned turn) (past.owns core)) none_reserved refl
         ∙ (sym (ap (open_for (past.owns core)) waits) ∙ ap (λ c. open_for (past.owns c) (past.waits c)) (sym same))))
-    | inr not ↦ λ i. open_for (others_after key.layout core (label.Looked turn) past other not i) (at_other past.waits core None other not i)
+    | inr not ↦ λ i. open_for (others_after key.layout core (label.Learned turn) past other not i) (at_other past.waits core None other not i)
   ]
 
   owes_none : (own : OwnTold) → own.reserved ≡ None → own.flight ≡ None → (over : Rattle.std.proofs.Common.Bool) → own.over ≡ over → owed_of own None ≡ 0
   owes_none own none idle true over = rw over refl
   owes_none own none idle false over = rw over (rw none (rw idle refl))
 
-  owed_looked : (other : ℕ) → owed_of (later.owns other) (later.waits other) ≤ owed_of (past.owns other) (past.waits other)
-  owed_looked other = elim (same_or_not other core) [
+  owed_learned : (other : ℕ) → owed_of (later.owns other) (later.waits other) ≤ owed_of (past.owns other) (past.waits other)
+  owed_learned other = elim (same_or_not other core) [
     | inl same ↦
         let here : owed_of (later.owns other) (later.waits other) ≡ 0 = ap (λ c. owed_of (later.owns c) (later.waits c)) same
         ∙ ((λ i. owed_of (owns_now i) (waits_now i))
-        ∙ owes_none (own_label (label.Looked turn) (past.owns core)) none_reserved refl (past.owns core).over refl)
+        ∙ owes_none (own_label (label.Learned turn) (past.owns core)) none_reserved refl (past.owns core).over refl)
         in
         omega (arith, here)
     | inr not ↦
         let here : owed_of (later.owns other) (later.waits other) ≡ owed_of (past.owns other) (past.waits other) =
-        λ i. owed_of (others_after key.layout core (label.Looked turn) past other not i) (at_other past.waits core None other not i)
+        λ i. owed_of (others_after key.layout core (label.Learned turn) past other not i) (at_other past.waits core None other not i)
         in
         omega (arith, here)
   ]
@@ -104,8 +104,8 @@ module _ {D : Type 0} (key : BoxKey D) (core : ℕ) (past : BoxPast) (fits : Pas
   -- the desk fits, once the turn is gone from it
   module _ (view : D → View) (was now : Desk D) (low : core < key.layout.cores) (same : now ≡ record was { waits = now.waits })
       (put : now.waits.items ≡ slice_set was.waits.items core None) where
-    looked_frame : FrameFits view key past was → FrameFits view key later now
-    looked_frame frame = record {
+    learned_frame : FrameFits view key past was → FrameFits view key later now
+    learned_frame frame = record {
       layout = frame.layout;
       large = subst (λ (d : Desk D). key.layout.blocks ≤ (view d.disk).size) (sym same) frame.large;
       laws = frame.laws;
@@ -117,7 +117,7 @@ module _ {D : Type 0} (key : BoxKey D) (core : ℕ) (past : BoxPast) (fits : Pas
       ledger = subst (λ (d : Desk D). LedgerKeeps d.ledger later) (sym same)
           (keeps_same was.ledger past later (record { commits = refl; lasts = refl; opens = refl; done = refl }) frame.ledger);
       places = ap (λ (d : Desk D). length d.ledger.opens) same ∙ frame.places;
-      opens = λ c. ap (λ (d : Desk D). option_map open_told (open_in d.ledger c)) same ∙ (frame.opens c ∙ sym (open_looked c));
+      opens = λ c. ap (λ (d : Desk D). option_map open_told (open_in d.ledger c)) same ∙ (frame.opens c ∙ sym (open_learned c));
       stamps = ap (λ (d : Desk D). d.stamps) same ∙ frame.stamps;
       faults = ap (λ (d : Desk D). d.faults) same ∙ frame.faults;
       failed = ap (λ (d : Desk D). d.failed) same ∙ frame.failed;
@@ -126,14 +126,14 @@ module _ {D : Type 0} (key : BoxKey D) (core : ℕ) (past : BoxPast) (fits : Pas
       moment = subst (λ (d : Desk D). past.moment ≤ (view d.disk).now) (sym same) frame.moment;
       since = subst (λ (d : Desk D). GoesOnSince view key d.disk) (sym same) frame.since;
       run = subst (λ (d : Desk D). RunFits key.layout key.start later (view d.disk)) (sym same)
-          (told_labels_fit (view was.disk) key.layout key.faults core key.start (label.Looked turn) past fits looked_rule tt (frame.laws was.disk) frame.run);
+          (told_labels_fit (view was.disk) key.layout key.faults core key.start (label.Learned turn) past fits learned_rule tt (frame.laws was.disk) frame.run);
     }
 
-    pub looked_fits : DeskFits view key past was → DeskFits view key later now
-    looked_fits old = record {
-      frame = looked_frame old.frame;
+    pub learned_fits : DeskFits view key past was → DeskFits view key later now
+    learned_fits old = record {
+      frame = learned_frame old.frame;
       room =
-          let less = owed_less key.layout.cores past later (λ c below. owed_looked c) in
+          let less = owed_less key.layout.cores past later (λ c below. owed_learned c) in
           let room = old.room in
           let spare = ap (λ (d : Desk D). d.turns.spare) same in
           omega (arith, less, room, spare);
