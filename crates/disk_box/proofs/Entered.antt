@@ -1,6 +1,6 @@
 -- A core that takes the box finds in it a desk that fits, and brings home one that does.
 use Rattle.sfs_dev.proofs.Runs.{GoesOn-refl}
-use Rattle.std.proofs.Common.{◌≡◌, ◌+◌, ◌<◌, ◌≤◌, ◌∷◌, ◌++◌, ◌∙◌, ℕ, List, [], Option, Some, None, inl, refl, sym, ap, subst, arith, IsSome, append_assoc, option_map}
+use Rattle.std.proofs.Common.{◌≡◌, ◌+◌, ◌<◌, ◌≤◌, ◌∷◌, ◌++◌, ◌∙◌, ℕ, List, [], Option, Some, None, inl, refl, sym, ap, subst, arith, IsSome, append_assoc, length, length-append, option_map}
 use Rattle.sfs_image.specs.Super.{Layout}
 use Rattle.sfs_dev.specs.Disk.{View}
 use Rattle.tree_laws.specs.Tree.{TreeState}
@@ -9,7 +9,10 @@ use Rattle.stamp_table.specs.declared.event.Event.TheVariants.{Told}
 use Rattle.stamp_table.specs.declared.held.HeldCell.{HeldCell}
 use Rattle.stamp_table.specs.declared.view.View.{View as Sight}
 use Rattle.stamp_table.specs.Events.{event_core}
-use Rattle.stamp_table.specs.Rule.{Has, entries_by}
+use Rattle.std.proofs.lemmas.List.{nil_from_length}
+use Rattle.std.proofs.lemmas.List.Elements.{filter-append}
+use Rattle.stamp_table.proofs.Logs.{own_comes}
+use Rattle.stamp_table.specs.Rule.{Has, entries_by, is_by}
 use Rattle.stamp_table.specs.Hand.{Desk as TableName}
 use Rattle.stamp_table.specs.Table.{TableState, HoldsMore, TellsFact, MayTell, cell_at, with_value}
 use Rattle.slot_laws.specs.declared.label.Label.{Label}
@@ -24,7 +27,7 @@ use Rattle.disk_box.specs.declared.desk.Desk.{Desk}
 use Rattle.disk_box.specs.Box.{past_of, LawfulBox, StandsBox, SpaceFits, IsHome}
 use Rattle.slot_laws.proofs.GrantsTold.{goes_both}
 use Rattle.disk_box.specs.Desk.{DeskFits, open_for, owed_of}
-use Rattle.disk_box.specs.Pens.{PenHand, past_at, own_at, IsOutside, HoldsBox, PenGoes}
+use Rattle.disk_box.specs.Pens.{PenHand, past_at, own_at, IsOutside, HoldsBox, PenGoes, TakesBox}
 use Rattle.disk_box.proofs.Frames.{at_itself}
 use Rattle.disk_box.proofs.Quiet.{LeavesKept, SameBeside, frame_same, room_same}
 use Rattle.disk_box.proofs.Telling.{Lawful, Stood, may_tell, own_more}
@@ -105,6 +108,21 @@ module _ {D : Type 0} (view : D → View) (key : BoxKey D) (core : ℕ) (desk : 
     faults = home.faults;
     slots = home.slots;
   }
+
+-- where a core's own events are those of what it has seen, and one more of each, nothing came between of its own
+none_before : (core : ℕ) (seen front mine after all_seen : List (Event Label)) (fact : Label)
+    → entries_by event_core core seen ≡ mine → after ≡ entries_by event_core core all_seen → after ≡ mine ++ Told (record { 0 = core }) fact ∷ []
+    → all_seen ≡ (seen ++ front) ++ Told (record { 0 = core }) fact ∷ [] → entries_by event_core core front ≡ []
+none_before core seen front mine after all_seen fact before own more whole =
+    let event = Told (record { 0 = core }) fact in
+    let last = own_comes event_core core (seen ++ front) event refl in
+    let parts = filter-append (is_by event_core core) seen front in
+    let all = ap length (sym more ∙ (own ∙ (ap (entries_by event_core core) whole ∙ last))) in
+    let one = length-append mine (event ∷ []) in
+    let other = length-append (entries_by event_core core (seen ++ front)) (event ∷ []) in
+    let split = ap length parts ∙ length-append (entries_by event_core core seen) (entries_by event_core core front) in
+    let same = ap length before in
+    nil_from_length (entries_by event_core core front) (omega (arith, all, one, other, split, same))
 
 busy_none : {D : Type 0} (view : D → View) (key : BoxKey D) (log : List (Event Label)) (value : Option (Desk D)) → StandsBox view key log value
     → (past_of key log).busy ≡ None
@@ -253,6 +271,25 @@ module _ {D : Type 0} (view : D → View) (t : TableState (BoxKey D)) (before ho
                 ∙ (ap (λ l. l ++ event ∷ []) two.1 ∙ sym tells.told.2.entry_last)))),
           );
     }
+
+    -- what others had told before, of which nothing is its own
+    pub takes_now : TakesBox before after
+    takes_now =
+        let front = holds.saw.seen.0 ++ tells.told.2.seen.0 in
+        let seen : after.view.seen ≡ (before.view.seen ++ front) ++ Told (record { 0 = before.view.core }) label.Took ∷ [] =
+        tells.told.2.entry_last
+        ∙ (ap (λ l. l ++ event ∷ []) (sym tells.told.2.seen.1)
+        ∙ (ap (λ (v : Sight TreeState (Event Label)). (v.seen ++ tells.told.2.seen.0) ++ event ∷ []) view_same
+        ∙ (ap (λ l. (l ++ tells.told.2.seen.0) ++ event ∷ []) (sym holds.saw.seen.1)
+        ∙ (ap (λ l. l ++ event ∷ []) (append_assoc before.view.seen holds.saw.seen.0 tells.told.2.seen.0)
+        ∙ ap (λ c. (before.view.seen ++ front) ++ Told (record { 0 = c }) label.Took ∷ []) core_same))))
+        in
+        record {
+          front = front;
+          others = none_before before.view.core before.view.seen front before.view.mine after.view.mine after.view.seen label.Took (sym outside.mine) (holds_now.mine
+              ∙ ap (λ c. entries_by event_core c after.view.seen) core_after) mine_now seen;
+          seen_is = seen;
+        }
 
     pub room_now : after.room + 1 ≡ before.room
     room_now =

@@ -6,6 +6,9 @@ use Rattle.stamp_table.specs.declared.event.Event.{Event}
 use Rattle.stamp_table.specs.declared.event.Event.TheVariants.{Told}
 use Rattle.stamp_table.specs.declared.held.HeldCell.{HeldCell}
 use Rattle.stamp_table.specs.declared.view.View.{View as Sight}
+use Rattle.stamp_table.specs.Events.{event_core}
+use Rattle.stamp_table.specs.Rule.{entries_by}
+use Rattle.stamp_table.proofs.Logs.{own_comes}
 use Rattle.stamp_table.specs.Hand.{Desk as TableName, places_of}
 use Rattle.stamp_table.specs.Table.{TableState, TellsFact, MayTell, LetsGo, Stands, EachFrom, cell_at, with_value, left_below}
 use Rattle.slot_laws.specs.declared.label.Label.{Label}
@@ -76,6 +79,24 @@ module _ {D : Type 0} (view : D → View) (t : TableState (BoxKey D)) (before : 
           ap (λ (v : Sight TreeState (Event Label)). v.core) lets.view
           ∙ (ap (λ (h : PenHand D). h.view.core) put_is ∙ ap (λ (v : Sight TreeState (Event Label)). v.core) tells.told.2.frame)
 
+      pub seen_left : after.view.seen ≡ before.view.seen ++ Told (record { 0 = before.view.core }) label.Gave ∷ []
+      seen_left =
+          ap (λ (v : Sight TreeState (Event Label)). v.seen) lets.view
+          ∙ (seen_same ∙ seen_is view t before holds label.Gave told tells)
+
+      pub mine_left : after.view.mine ≡ before.view.mine ++ Told (record { 0 = before.view.core }) label.Gave ∷ []
+      mine_left =
+          ap (λ (v : Sight TreeState (Event Label)). v.mine) lets.view
+          ∙ (ap (λ (h : PenHand D). h.view.mine) put_is ∙ tells.told.2.mine)
+
+      own_seen : after.view.mine ≡ entries_by event_core after.view.core after.view.seen
+      own_seen =
+          let event = Told (record { 0 = before.view.core }) label.Gave in
+          mine_left
+          ∙ (ap (λ l. l ++ event ∷ []) holds.mine
+          ∙ (sym (own_comes event_core before.view.core before.view.seen event refl)
+          ∙ (λ i. entries_by event_core (sym core_same i) (sym seen_left i))))
+
       pub outside_now : IsOutside t after
       outside_now = record {
         table_is = table_same ∙ holds.table_is;
@@ -83,6 +104,7 @@ module _ {D : Type 0} (view : D → View) (t : TableState (BoxKey D)) (before : 
         core_is = subst (λ (z : ℕ × TableName (BoxKey D)). z.0 < z.1.given.layout.cores) (λ i. (sym core_same i, sym table_same i)) holds.core_is;
         holds_none = none_held;
         none_held = places ∙ ap (λ (l : List (HeldCell (Option (Desk D)))). reverse (places_of l)) none_held;
+        mine = own_seen;
       }
 
       pub own_left : own_at after ≡ own_at before
@@ -90,11 +112,6 @@ module _ {D : Type 0} (view : D → View) (t : TableState (BoxKey D)) (before : 
           ap (λ (v : Sight TreeState (Event Label)). own_from v.mine nothing_told) lets.view
           ∙ (ap (λ (h : PenHand D). own_from h.view.mine nothing_told) put_is
           ∙ (ap (λ l. own_from l nothing_told) tells.told.2.mine ∙ own_more before.view.mine label.Gave before.view.core nothing_told))
-
-      pub mine_left : after.view.mine ≡ before.view.mine ++ Told (record { 0 = before.view.core }) label.Gave ∷ []
-      mine_left =
-          ap (λ (v : Sight TreeState (Event Label)). v.mine) lets.view
-          ∙ (ap (λ (h : PenHand D). h.view.mine) put_is ∙ tells.told.2.mine)
 
       pub goes_left : PenGoes before after
       goes_left =

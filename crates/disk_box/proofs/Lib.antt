@@ -29,3 +29,7 @@ pub mod Telling
 pub mod Waits
 pub mod WriteSteps
 pub mod Wrote
+pub mod Due
+pub mod CountSteps
+pub mod Sealing
+pub mod ServedAll

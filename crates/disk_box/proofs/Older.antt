@@ -148,8 +148,8 @@ module _ (slots : List Slot) where
 -- a durable commit lingers
 pub durable_lingers : (p : Phase) (place : Place) (work : SlotWork) → PhaseFits p place (Some work) → work.settled ≡ true → is_lingering (kind_of p) ≡ true
 durable_lingers (phase.Idle x) place work fits settled = absurd fits
-durable_lingers (phase.Filling x) place work fits settled = absurd (true_not_false (sym settled ∙ fits.shut.aloft))
-durable_lingers (phase.Filled x) place work fits settled = absurd (true_not_false (sym settled ∙ fits.shut.aloft))
+durable_lingers (phase.Filling x) place work fits settled = absurd (true_not_false (sym settled ∙ fits.being.shut.aloft))
+durable_lingers (phase.Filled x) place work fits settled = absurd (true_not_false (sym settled ∙ fits.being.shut.aloft))
 durable_lingers (phase.Sealed x) place work fits settled = absurd (true_not_false (sym settled ∙ fits.filled.shut.aloft))
 durable_lingers (phase.Opened x) place work fits settled = absurd (true_not_false (sym settled ∙ fits.aloft))
 durable_lingers (phase.Durable x) place work fits settled = refl

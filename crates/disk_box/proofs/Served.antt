@@ -5,9 +5,10 @@ use Rattle.std.specs.declared.alloc.Global.{Global}
 use Rattle.std.proofs.Common.{◌≡◌, ◌+◌, ◌∙◌, ℕ, List, [], length, Some, None, inl, inr, refl, sym, ap, subst, arith, slice_set, append-nil, false}
 use Rattle.std.proofs.lemmas.List.{length-set}
 use Rattle.sfs_base.proofs.BasicOptions.{some_same}
+use Rattle.sfs_base.proofs.BasicTruth.{true_not_false}
 use Rattle.sfs_image.specs.Super.{Layout}
 use Rattle.sfs_dev.specs.Disk.{View}
-use Rattle.journal_one.specs.Job.{Job, fill_count}
+use Rattle.journal_one.specs.Job.{Job}
 use Rattle.merge_laws.proofs.Blocks.{same_or_not}
 use Rattle.slot_laws.specs.declared.label.Label.TheVariants as label
 use Rattle.slot_laws.specs.Slots.{SlotKnown, SlotWork, Slots, known_synced, place_at}
@@ -26,10 +27,10 @@ use Rattle.disk_box.specs.declared.kind.Kind.TheVariants as kind
 use Rattle.disk_box.specs.Calls.{FollowsSync, NoneAwaits, TakesSync, awaits_sync}
 use Rattle.disk_box.specs.Kind.{HasKind, kind_of}
 use Rattle.disk_box.specs.Serving.{GoesBeside, IsServing}
-use Rattle.disk_box.specs.Slots.{IsBeingFilled, IsBeingPlaced, IsClosingOf, Notes, NotesWork, PhaseFits, SlotFits, SlotsFit}
-use Rattle.slot_laws.specs.Telling.{IsOfStep}
+use Rattle.disk_box.specs.Slots.{IsBeingPlaced, IsClosingOf, IsFilledOf, Notes, NotesWork, PhaseFits, SlotFits, SlotsFit}
+use Rattle.slot_laws.specs.Telling.{IsOfStep, is_device_call}
 use Rattle.disk_box.specs.Pens.{PenHand, past_at, own_at, HoldsBox, TellsLabel}
-use Rattle.disk_box.proofs.StepsTold.{step_told, steps_none}
+use Rattle.disk_box.proofs.StepsTold.{no_call_told, step_told, steps_none}
 use Rattle.disk_box.proofs.After.{at_told, failed_told, past_fits_at}
 use Rattle.disk_box.proofs.AtSlots.{IsTold, told_at}
 use Rattle.disk_box.proofs.Phases.{closing_is, filled_is, placed_is}
@@ -101,6 +102,7 @@ goes_still pen = record {
   goes = record { frame = refl; view = refl; seen = ([], append-nil pen.view.seen) };
   room = refl;
   tells = steps_none pen;
+  calls = refl;
   own = refl;
 }
 
@@ -121,6 +123,18 @@ module _ {D : Type 0} (view : D → View) (t : TableState (BoxKey D)) (pen : Pen
 
   abbrev past : BoxPast
   past = past_at pen
+
+  -- none that is left to serve is filled and not sealed
+  pub none_filled : HasKind was.slots.items k kind.Filled → ⊥
+  none_filled has =
+      let told = told_at view t pen was k kind.Filled serving.at has refl in
+      let state = filled_is has.slot.phase has.kind_is in
+      let fits : IsFilledOf state.0 told.work =
+      subst (λ (p : Phase). PhaseFits p (place_at key.layout k) (Some told.work)) state.1 told.fits
+      in
+      let lags = fits.lags in
+      let same = fill_same told.work.known (serving.known k told.work (omega arith) told.there) lags.0 in
+      true_not_false (sym (fits.being.written lags.0 lags.1) ∙ (sym same ∙ lags.2))
 
   -- a slot that is passed over
   pub serves_next : (what : Kind) → HasKind was.slots.items k what → awaits_sync what ≡ false → IsServing view t pen was (k + 1)
@@ -179,36 +193,6 @@ module _ {D : Type 0} (view : D → View) (t : TableState (BoxKey D)) (pen : Pen
       known = λ j work low there. serving.known j work (omega (arith, low)) there;
       served = subst (λ l. NoneAwaits l (k + 1)) (sym put) (awaits_next was.slots.items k new serving.served served);
     }
-
-    -- all that fills a slot is on the disk
-    pub sealed_now : (has : HasKind was.slots.items k kind.Filled) → TakesSync has.slot new → IsServing view t pen now (k + 1)
-    sealed_now has takes =
-        let told = told_at view t pen was k kind.Filled serving.at has refl in
-        let state = filled_is has.slot.phase has.kind_is in
-        let fits : IsBeingFilled state.0 (fill_count state.0) told.work =
-        subst (λ (p : Phase). PhaseFits p (place_at key.layout k) (Some told.work)) state.1 told.fits
-        in
-        served_quiet (record {
-          fits = subst (PhaseFits new.phase (place_at key.layout k)) (sym told.there)
-              (seals new.phase state.0 told.work fits (serving.known k told.work (omega arith) told.there)
-              (subst (λ (p : Phase). FollowsSync p new.phase) state.1 takes.follows));
-          notes = subst (Notes new) (sym told.there) (notes_kept has.slot new told.work takes.beside told.notes);
-        }) takes.served
-      where
-        seals : (next : Phase) (filled : Job) (work : SlotWork) → IsBeingFilled filled (fill_count filled) work → known_synced work.known ≡ work.known
-            → FollowsSync (phase.Filled filled) next → PhaseFits next (place_at key.layout k) (Some work)
-        seals (phase.Sealed sealed) filled work fits synced follows =
-            subst (λ (j : Job). PhaseFits (phase.Sealed j) (place_at key.layout k) (Some work)) (sym follows)
-            (record { filled = fits; on_disk = λ n low. fill_same work.known synced n ∙ fits.written n low })
-        seals (phase.Idle x) filled work fits synced follows = absurd follows
-        seals (phase.Filling x) filled work fits synced follows = absurd follows
-        seals (phase.Filled x) filled work fits synced follows = absurd follows
-        seals (phase.Opened x) filled work fits synced follows = absurd follows
-        seals (phase.Durable x) filled work fits synced follows = absurd follows
-        seals (phase.Placed x) filled work fits synced follows = absurd follows
-        seals (phase.Copied x) filled work fits synced follows = absurd follows
-        seals (phase.Closing x) filled work fits synced follows = absurd follows
-        seals phase.Lost filled work fits synced follows = absurd follows
 
     -- its records are in the table on the disk
     pub copied_now : (has : HasKind was.slots.items k kind.Placed) → TakesSync has.slot new → IsServing view t pen now (k + 1)
@@ -310,10 +294,12 @@ module _ {D : Type 0} (view : D → View) (t : TableState (BoxKey D)) (pen : Pen
 
 -- who tells of a slot goes beside its own
 pub goes_told : {D : Type 0} (before after : PenHand D) (fact : Rattle.slot_laws.specs.declared.label.Label.Label) → TellsLabel fact before after
-    → IsOfStep fact → Rattle.slot_laws.specs.Labels.own_label fact (own_at before) ≡ own_at before → GoesBeside before after
-goes_told before after fact tells of same = record {
+    → IsOfStep fact → is_device_call fact ≡ false → Rattle.slot_laws.specs.Labels.own_label fact (own_at before) ≡ own_at before
+    → GoesBeside before after
+goes_told before after fact tells of quiet same = record {
   goes = tells.goes;
   room = tells.room;
   tells = step_told before after fact tells of;
+  calls = no_call_told before after fact tells quiet;
   own = tells.own ∙ same;
 }

@@ -28,7 +28,7 @@ use Rattle.disk_box.specs.Slots.{SlotsFit}
 use Rattle.slot_laws.specs.Telling.{IsOfStep}
 use Rattle.disk_box.specs.Pens.{PenHand, past_at, HoldsBox, TellsLabel, WorksAtDesk, IsBroken}
 use Rattle.disk_box.specs.Steps.{Steps}
-use Rattle.disk_box.proofs.StepsTold.{step_told}
+use Rattle.disk_box.proofs.StepsTold.{once_told, step_told}
 use Rattle.disk_box.proofs.After.{failed_told, fits_told, frame_told, key_same, room_told, space_told}
 use Rattle.disk_box.proofs.Entered.{open_same, owed_same}
 use Rattle.disk_box.proofs.Quiet.{LeavesKept, SameBeside, frame_same, room_same}
@@ -239,6 +239,7 @@ module _ {D V : Type 0} (view : D → View) (t : TableState (BoxKey D)) (before 
     goes = tells.goes;
     room = tells.room;
     tells = step_told before after fact tells of;
+    once = once_told before after fact tells;
     ok = at_ok result holds tells framed (faults_ok result refl at.fits.faults at.calm framed.answers framed.calm) slots;
     waits = on_err result (ap (λ (p : BoxPast). p.waits before.view.core) tells.past ∙ ap (λ (w : ℕ → Option Turn). w before.view.core) still);
     err = broken_so result refl holds tells framed at.fits.faults at.calm;

@@ -13,7 +13,7 @@ use Rattle.slot_laws.specs.Labels.{BoxPast}
 use Rattle.slot_laws.specs.Rules.{HasTurn, MayFrom}
 
 -- who tells while a core has the box is this core
-who_tells : (core owner : ℕ) (fact : Label) (busy : Option ℕ) → HasTurn core fact busy → busy ≡ Some owner → core ≡ owner
+pub who_tells : (core owner : ℕ) (fact : Label) (busy : Option ℕ) → HasTurn core fact busy → busy ≡ Some owner → core ≡ owner
 who_tells core owner label.Took busy turn is = absurd (none_some (sym turn ∙ is))
 who_tells core owner label.Gave busy turn is = some_same (sym turn ∙ is)
 who_tells core owner (label.Noted t) busy turn is = some_same (sym turn ∙ is)
@@ -30,7 +30,7 @@ who_tells core owner (label.Shut k d) busy turn is = some_same (sym turn ∙ is)
 who_tells core owner (label.Idled k) busy turn is = some_same (sym turn ∙ is)
 who_tells core owner (label.Empty c u o d) busy turn is = some_same (sym turn ∙ is)
 
-some_own : (core : ℕ) (event : Event Label) (more : List (Event Label)) → event_core event ≡ core → entries_by event_core core (event ∷ more) ≡ [] → ⊥
+pub some_own : (core : ℕ) (event : Event Label) (more : List (Event Label)) → event_core event ≡ core → entries_by event_core core (event ∷ more) ≡ [] → ⊥
 some_own core event more own none =
     let there : entries_by event_core core (event ∷ more) ≡ event ∷ entries_by event_core core more =
     ap (λ b. cond b (event ∷ entries_by event_core core more) (entries_by event_core core more)) (ap (λ n. nat_eq n core) own ∙ same_number core)

@@ -21,7 +21,7 @@ use Rattle.disk_box.specs.declared.desk.Slot.{Slot}
 use Rattle.disk_box.specs.declared.kind.Kind.TheVariants as kind
 use Rattle.disk_box.specs.Calls.{FollowsWrite, HasMore, WritesNext, blocks_of, next_piece, written_of}
 use Rattle.disk_box.specs.Kind.{HasKind}
-use Rattle.disk_box.specs.Slots.{IsBeingFilled, IsBeingPlaced, IsCopiedOf, PhaseFits, SlotsFit}
+use Rattle.disk_box.specs.Slots.{IsBeingFilled, IsBeingPlaced, IsCopiedOf, IsFillingOf, PhaseFits, SlotsFit}
 use Rattle.disk_box.specs.Pens.{PenHand, past_at, HoldsBox, TellsLabel, WorksAtDesk}
 use Rattle.disk_box.specs.Steps.{NextIsOldest, Steps}
 use Rattle.disk_box.proofs.After.{past_fits_at}
@@ -48,8 +48,11 @@ module _ {D : Type 0} (view : D → View) (t : TableState (BoxKey D)) (before : 
     abbrev state : (filling : Stage) × (has.slot.phase ≡ phase.Filling filling)
     state = filling_is has.slot.phase has.kind_is
 
-    fits : IsBeingFilled state.0.job state.0.done told.work
-    fits = subst (λ (p : Phase). PhaseFits p (place_at key.layout k) (Some told.work)) state.1 told.fits
+    filling_fits : IsFillingOf state.0 told.work
+    filling_fits = subst (λ (p : Phase). PhaseFits p (place_at key.layout k) (Some told.work)) state.1 told.fits
+
+    abbrev fits : IsBeingFilled state.0.job state.0.done told.work
+    fits = filling_fits.being
 
     pub fill_large : blocks_of has.slot.phase ≤ (view was.disk).size
     fill_large =
@@ -91,7 +94,7 @@ module _ {D : Type 0} (view : D → View) (t : TableState (BoxKey D)) (before : 
           (at.fits.slots at.calm) told.there told.notes wrote.beside
           (subst (λ n. PhaseFits new.phase (place_at key.layout k) (Some (knowing (known_filled true n) told.work)))
           (sym count)
-          (next_filled (place_at key.layout k) told.work state.0 fits new.phase (subst (λ (p : Phase). FollowsWrite p new.phase) state.1 follows))))
+          (next_filled (place_at key.layout k) told.work state.0 filling_fits new.phase (subst (λ (p : Phase). FollowsWrite p new.phase) state.1 follows))))
           wrote.ok)))
 
   -- A slot with a durable commit of which records are to be placed.

@@ -1,5 +1,5 @@
 -- What a device call for one slot does to the slot and to the disk.
-use Rattle.std.specs.Prelude.{◌≡◌, ◌<◌, ℕ, [], length, Result, OnOk, IfErr, Bool, true, false, List}
+use Rattle.std.specs.Prelude.{◌≡◌, ◌≢◌, ◌<◌, ℕ, [], length, Result, OnOk, IfErr, Bool, true, false, List}
 use Rattle.std.specs.Result.{is_ok}
 use Rattle.sfs_base.specs.Ends.{HasCause}
 use Rattle.sfs_dev.specs.Disk.{View}
@@ -48,7 +48,7 @@ next_piece _ = record { at = 0; bytes = [] }
 
 -- what a slot's phase is once that is written
 abbrev pub FollowsWrite : Phase → Phase → Type 0
-FollowsWrite (phase.Filling filling) (phase.Filling next) = next ≡ next_stage filling
+FollowsWrite (phase.Filling filling) (phase.Filling next) = (next ≡ next_stage filling) × (1 < left_to_fill filling)
 FollowsWrite (phase.Filling filling) (phase.Filled filled) = (filled ≡ filling.job) × (left_to_fill filling ≡ 1)
 FollowsWrite (phase.Sealed sealed) (phase.Opened opened) = opened ≡ sealed
 FollowsWrite (phase.Durable durable) (phase.Durable next) = next ≡ next_stage durable
@@ -88,3 +88,8 @@ pub record TakesSync (was now : Slot) : Type 0 where
   pub beside : now ≡ record was { phase = now.phase }
   pub served : awaits_sync (kind_of now.phase) ≡ false
   pub follows : FollowsSync was.phase now.phase
+
+-- A slot that was filled takes note of a sync, and one of another phase is as it was.
+pub record IsSealedBySync (was now : Slot) : Type 0 where
+  pub filled : kind_of was.phase ≡ kind.Filled → TakesSync was now
+  pub other : kind_of was.phase ≢ kind.Filled → now ≡ was

@@ -1,5 +1,6 @@
 pub mod Box
 pub mod Calls
+pub mod Counting
 pub mod Codes
 pub mod Desk
 pub mod Kind

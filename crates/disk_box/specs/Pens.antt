@@ -11,7 +11,7 @@ use Rattle.stamp_table.specs.Hand.{Hand}
 use Rattle.stamp_table.specs.Table.{TableState}
 use Rattle.slot_laws.specs.declared.label.Label.{Label}
 use Rattle.slot_laws.specs.declared.label.Label.TheVariants as label
-use Rattle.slot_laws.specs.Telling.{AreSteps, labels_by}
+use Rattle.slot_laws.specs.Telling.{AreSteps, device_calls, labels_by}
 use Rattle.slot_laws.specs.Labels.{BoxPast, OwnTold, own_from, own_label, after_label, nothing_told}
 use Rattle.disk_box.specs.declared.key.BoxKey.{BoxKey}
 use Rattle.disk_box.specs.declared.desk.Desk.{Desk}
@@ -31,6 +31,10 @@ module _ {D : Type 0} where
   abbrev pub own_at : PenHand D → OwnTold
   own_at pen = own_from pen.view.mine nothing_told
 
+  -- of how many device calls it has told
+  abbrev pub calls_at : PenHand D → ℕ
+  calls_at pen = device_calls pen.view.mine
+
   -- A pen of a box that does not have it.
   pub record IsOutside (t : TableState (BoxKey D)) (pen : PenHand D) : Type 0 where
     pub table_is : pen.table ≡ t.table
@@ -38,6 +42,7 @@ module _ {D : Type 0} where
     pub core_is : pen.view.core < pen.table.given.layout.cores
     pub holds_none : pen.held ≡ []
     pub none_held : pen.view.held ≡ []
+    pub mine : pen.view.mine ≡ entries_by event_core pen.view.core pen.view.seen
 
   -- One that has the box, and what lies in it in its hands: nobody else tells a label until it is home again, so what it has seen is all that was
   -- told.
@@ -56,6 +61,12 @@ module _ {D : Type 0} where
     pub frame : record after { view = before.view; held = before.held; room = before.room } ≡ before
     pub view : record after.view { seen = before.view.seen; mine = before.view.mine; held = before.view.held } ≡ before.view
     pub seen : IsPrefix before.view.seen after.view.seen
+
+  -- A pen has taken the box, and told so: behind what it had seen others told this before.
+  pub record TakesBox (before after : PenHand D) : Type 0 where
+    pub front : List (Event Label)
+    pub others : entries_by event_core before.view.core front ≡ []
+    pub seen_is : after.view.seen ≡ (before.view.seen ++ front) ++ Told (record { 0 = before.view.core }) label.Took ∷ []
 
   -- A pen that has the box has told a label: what was told, and what it told itself, come to that of before and the label.
   pub record TellsLabel (fact : Label) (before after : PenHand D) : Type 0 where

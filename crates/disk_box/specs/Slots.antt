@@ -1,9 +1,10 @@
 -- What a slot's state at run time says of the commit that is in it.
-use Rattle.std.specs.Prelude.{◌≡◌, ◌<◌, ℕ, true, false, List, length, map, Option, Some, None, slice_get}
+use Rattle.std.specs.Prelude.{◌≡◌, ◌<◌, ◌≤◌, ℕ, true, false, List, length, map, Option, Some, None, slice_get}
 use Rattle.std.specs.List.Sorted.{IsStrictlyIncreasing}
 use Rattle.sfs_image.specs.Super.{Layout}
 use Rattle.journal_one.specs.Job.{Place, Job, fill_count, without_fresh}
 use Rattle.journal_one.specs.Packed.{inode_of_entry}
+use Rattle.journal_one.specs.Stage.{Stage}
 use Rattle.slot_laws.specs.Slots.{shut_gate, open_gate, SlotWork, Slots, place_at}
 use Rattle.slot_laws.specs.Labels.{fsync_told}
 use Rattle.disk_box.specs.declared.desk.Phase.{Phase}
@@ -16,11 +17,22 @@ pub record IsShutAloft (work : SlotWork) : Type 0 where
   pub left : work.known.gate_left ≡ shut_gate
   pub read : work.known.gate_read ≡ shut_gate
 
--- Its slot is being filled, and the first pieces stand in what a read gives.
+-- Its slot is being filled: the first pieces stand in what a read gives, and of the others none was written.
 pub record IsBeingFilled (job : Job) (done : ℕ) (work : SlotWork) : Type 0 where
   pub job_is : work.job ≡ job
   pub shut : IsShutAloft work
   pub written : (n : ℕ) → n < done → work.known.fill_read n ≡ true
+  pub rest : (n : ℕ) → done ≤ n → (work.known.fill_read n ≡ false) × (work.known.fill_left n ≡ false)
+
+-- There is more to be written.
+pub record IsFillingOf (filling : Stage) (work : SlotWork) : Type 0 where
+  pub being : IsBeingFilled filling.job filling.done work
+  pub more : filling.done < fill_count filling.job
+
+-- All is written, some of it behind the last sync.
+pub record IsFilledOf (job : Job) (work : SlotWork) : Type 0 where
+  pub being : IsBeingFilled job (fill_count job) work
+  pub lags : (n : ℕ) × (n < fill_count job) × (work.known.fill_left n ≡ false)
 
 -- All that fills it is on the disk.
 pub record IsSealedOf (job : Job) (work : SlotWork) : Type 0 where
@@ -55,8 +67,8 @@ pub record IsClosingOf (job : Job) (work : SlotWork) : Type 0 where
 -- what a phase says of the commit in its slot, where there is one
 abbrev pub PhaseFits : Phase → Place → Option SlotWork → Type 0
 PhaseFits (phase.Idle idle) place None = idle ≡ place
-PhaseFits (phase.Filling filling) place (Some work) = IsBeingFilled filling.job filling.done work
-PhaseFits (phase.Filled filled) place (Some work) = IsBeingFilled filled (fill_count filled) work
+PhaseFits (phase.Filling filling) place (Some work) = IsFillingOf filling work
+PhaseFits (phase.Filled filled) place (Some work) = IsFilledOf filled work
 PhaseFits (phase.Sealed sealed) place (Some work) = IsSealedOf sealed work
 PhaseFits (phase.Opened opened) place (Some work) = IsOpenedOf opened work
 PhaseFits (phase.Durable durable) place (Some work) = IsBeingPlaced durable.job durable.done work

@@ -1,5 +1,5 @@
 -- What a step at the box comes to: one device call at most, and what is told of it.
-use Rattle.std.specs.Prelude.{◌≡◌, ◌++◌, ◌∷◌, ℕ, List, [], Bool, true, false, Some, Result, OnOk, OnErr, IfErr}
+use Rattle.std.specs.Prelude.{◌≡◌, ◌+◌, ◌≤◌, ◌++◌, ◌∷◌, ℕ, List, [], Bool, true, false, Some, Result, OnOk, OnErr, IfErr}
 use Rattle.sfs_dev.specs.Disk.{View}
 use Rattle.tree_laws.specs.declared.turns.Turn.{Turn}
 use Rattle.tree_laws.specs.declared.turns.TurnAct.TheVariants as act
@@ -15,14 +15,15 @@ use Rattle.disk_box.specs.declared.desk.Phase.TheVariants as phase
 use Rattle.disk_box.specs.declared.kind.Kind.{Kind}
 use Rattle.disk_box.specs.declared.kind.Kind.TheVariants as kind
 use Rattle.disk_box.specs.Kind.{HasKind}
-use Rattle.disk_box.specs.Pens.{PenHand, PenGoes, TellsSteps, WorksAtDesk, IsBroken, past_at}
+use Rattle.disk_box.specs.Pens.{PenHand, PenGoes, TellsSteps, WorksAtDesk, IsBroken, calls_at, past_at}
 
 module _ {D : Type 0} (view : D → View) (t : TableState (BoxKey D)) where
-  -- A pen with the box has made a step, and told of it: it is at work still; or a device call of its failed, of which it has yet to tell.
+  -- A pen with the box has made a step of one device call at most, and told of it: it is at work still; or a device call of its failed, of which it has yet to tell.
   pub record Steps {V : Type 0} (before after : PenHand D) (desk : Desk D) (result : Result V ℕ) : Type 0 where
     pub goes : PenGoes before after
     pub room : after.room ≡ before.room
     pub tells : TellsSteps before after
+    pub once : calls_at after ≤ calls_at before + 1
     pub ok : OnOk result (WorksAtDesk view t after desk)
     -- no turn came to wait for the core in a call that failed
     pub waits : OnErr result ((past_at after).waits before.view.core ≡ (past_at before).waits before.view.core)

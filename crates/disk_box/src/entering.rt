@@ -3,7 +3,7 @@ ghost use Rattle.std.specs.Prelude.{◌≡◌, ◌+◌, ◌<◌, ◌∷◌, ◌+
 ghost use Rattle.stamp_table.specs.declared.event.Event.TheVariants.{Told};
 ghost use Rattle.slot_laws.specs.declared.label.Label.TheVariants as label;
 ghost use Rattle.slot_laws.specs.Rules.{MayLabel};
-ghost use Rattle.disk_box.specs.Pens.{HoldsBox, IsAmid, IsAtDesk, IsOutside, PenGoes, TellsLabel, own_at, past_at};
+ghost use Rattle.disk_box.specs.Pens.{HoldsBox, IsAmid, IsAtDesk, IsOutside, PenGoes, TakesBox, TellsLabel, own_at, past_at};
 
 use crate::{BoxTable, Desk, Pen};
 use sfs_dev::Disk;
@@ -18,6 +18,7 @@ pub fn enter<R: Wait, D: Disk + Drop>(rt: &R, table: &BoxTable<D>, pen: &mut Pen
     ensures goes { PenGoes pen.old pen.new }
     ensures own { own_at pen.new ≡ own_at pen.old }
     ensures mine { pen.new.view.mine ≡ pen.old.view.mine ++ Told (record { 0 = pen.old.view.core }) label.Took ∷ [] }
+    ensures takes { TakesBox pen.old pen.new }
     ensures room { pen.new.room + 1 ≡ pen.old.room }
 {
     pen.hold_one(rt, table, 0);
@@ -46,6 +47,7 @@ pub fn leave<D: Disk + Drop>(table: &BoxTable<D>, pen: &mut Pen<D>, desk: Desk<D
     ensures goes { PenGoes pen.old pen.new }
     ensures own { own_at pen.new ≡ own_at pen.old }
     ensures mine { pen.new.view.mine ≡ pen.old.view.mine ++ Told (record { 0 = pen.old.view.core }) label.Gave ∷ [] }
+    ensures seen { pen.new.view.seen ≡ pen.old.view.seen ++ Told (record { 0 = pen.old.view.core }) label.Gave ∷ [] }
     ensures room { pen.new.room ≡ pen.old.room + 1 }
 {
     pen.tell(table, &Label::Gave);

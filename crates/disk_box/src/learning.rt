@@ -1,11 +1,11 @@
 // What a core finds as it comes to the box: that its commit is durable, or that a commit has failed.
-ghost use Rattle.std.specs.Prelude.{◌≡◌, ◌⊎◌, ◌<◌, ◌∷◌, IfNone, IfSome, IsSome, None, []};
-ghost use Rattle.slot_laws.specs.Labels.{fsync_told, own_label};
+ghost use Rattle.std.specs.Prelude.{◌≡◌, ◌⊎◌, ◌<◌, IfNone, IfSome, IsSome, None, Some};
+ghost use Rattle.slot_laws.specs.Labels.{fsync_told};
 ghost use Rattle.slot_laws.specs.Rules.{IsTurnBy};
 ghost use Rattle.slot_laws.specs.declared.label.Label.TheVariants as label;
 ghost use Rattle.tree_laws.specs.declared.turns.TurnAct.TheVariants as act;
 ghost use Rattle.disk_box.specs.Desk.{owed_by, owed_of};
-ghost use Rattle.disk_box.specs.Pens.{IsAtDesk, PenGoes, Tells, own_at, past_at};
+ghost use Rattle.disk_box.specs.Pens.{IsAtDesk, PenGoes, TellsLabel, own_at, past_at};
 ghost use Rattle.disk_box.specs.Turns.{Halts, Lands, TellsHalt};
 
 use crate::{BoxTable, Desk, Fsync, Pen, note, note_turn};
@@ -25,7 +25,8 @@ pub fn learn<D: Disk + Drop>(
     ensures room { pen.new.room ≡ pen.old.room }
     ensures none { IfNone result ((pen.new ≡ pen.old) × (desk.new ≡ desk.old) × ((past_at pen.old).waits pen.old.view.core ≡ None)) }
     ensures some { IfSome result (λ turn. Lands turn pen.old.view.core (own_at pen.old) (own_at pen.new)) }
-    ensures tells { IfSome result (λ turn. Tells (label.Learned turn ∷ []) pen.old pen.new) }
+    ensures waits { IfSome result (λ turn. (past_at pen.old).waits pen.old.view.core ≡ Some turn) }
+    ensures tells { IfSome result (λ turn. TellsLabel (label.Learned turn) pen.old pen.new) }
 {
     let core = pen.number().0 as usize;
     let turn = desk.waits[core]?;

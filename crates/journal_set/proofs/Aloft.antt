@@ -50,8 +50,8 @@ in_no_phase kind.Lost opened flies filling filled sealed behind = absurd flies
 flies_in : (p : Phase) (place : Place) (work : SlotWork) (opened : Bool) → PhaseFits p place (Some work) → work.settled ≡ false
     → may_be_open work.known.gate_left ≡ opened → may_be_open work.known.gate_read ≡ opened → FliesIn (kind_of p) opened
 flies_in (phase.Idle x) place work opened fits aloft left read = absurd fits
-flies_in (phase.Filling x) place work opened fits aloft left read = sym left ∙ ap may_be_open fits.shut.left
-flies_in (phase.Filled x) place work opened fits aloft left read = sym left ∙ ap may_be_open fits.shut.left
+flies_in (phase.Filling x) place work opened fits aloft left read = sym left ∙ ap may_be_open fits.being.shut.left
+flies_in (phase.Filled x) place work opened fits aloft left read = sym left ∙ ap may_be_open fits.being.shut.left
 flies_in (phase.Sealed x) place work opened fits aloft left read = sym left ∙ ap may_be_open fits.filled.shut.left
 flies_in (phase.Opened x) place work opened fits aloft left read = sym read ∙ ap may_be_open fits.read
 flies_in (phase.Durable x) place work opened fits aloft left read = absurd (true_not_false (sym fits.durable ∙ aloft))

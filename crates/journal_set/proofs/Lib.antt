@@ -30,3 +30,8 @@ pub mod WaysGone
 pub mod PensTied
 pub mod Rising
 pub mod Newer
+pub mod OwnEvents
+pub mod AmidTurns
+pub mod TurnAlone
+pub mod Alone
+pub mod CallsTold

@@ -6,6 +6,7 @@ use Rattle.sfs_base.proofs.BasicOptions.{none_some}
 use Rattle.sfs_dev.specs.Disk.{View}
 use Rattle.journal_one.specs.Job.{Place}
 use Rattle.stamp_table.specs.Table.{TableState}
+use Rattle.slot_laws.specs.Schedule.{AllIdle}
 use Rattle.slot_laws.specs.Slots.{SlotWork, place_at}
 use Rattle.disk_box.specs.declared.key.BoxKey.{BoxKey}
 use Rattle.disk_box.specs.declared.desk.Desk.{Desk}
@@ -75,6 +76,11 @@ module _ {D : Type 0} (view : D → View) (t : TableState (BoxKey D)) (pen : Pen
         ap (λ c. ((past_at pen).owns c).flight) (sym (first_owner view key (past_at pen) desk work.fits.frame pen.view.core)) ∙ aloft.flies_is
         in
         absurd (none_some (sym rests ∙ flies))
+
+  -- so some slot has a commit
+  pub some_commit : AllIdle (past_at pen).slots → ⊥
+  some_commit idle = busy (not_idle there.0.phase (place_at key.layout own_slot)
+      (subst (PhaseFits there.0.phase (place_at key.layout own_slot)) (idle own_slot) fits.fits))
 
   pub some_lingers : Lingers desk.slots.items own_slot
   some_lingers = record {

@@ -16,6 +16,8 @@ use Rattle.sfs_dev.specs.Steps.{TellsAlike}
 use Rattle.tree_laws.specs.Tree.{TreeState}
 use Rattle.tree_laws.specs.declared.turns.Turn.{Turn}
 use Rattle.stamp_table.specs.declared.event.Event.{Event}
+use Rattle.stamp_table.specs.Events.{event_core}
+use Rattle.stamp_table.specs.Rule.{entries_by}
 use Rattle.stamp_table.specs.Hand.{Desk as TableDesk}
 use Rattle.stamp_table.specs.Table.{AreAllCores, AreIdleFrom, AreInSlots, AreNew, CoresHaveRoom, IsTableOf, TableState}
 use Rattle.slot_laws.specs.Labels.{first_past}
@@ -138,6 +140,7 @@ pens_new {D = D} t first key pens table made all new room = record {
           core_is = subst (λ (d : TableDesk (BoxKey D)). pen.view.core < d.given.layout.cores) (sym is.0) (omega (arith, low, count, number, cores));
           holds_none = is.2;
           none_held = is.3;
+          mine = is.5 ∙ sym (ap (entries_by event_core pen.view.core) is.4);
         };
         room = (let have = is.6 in omega (arith, have));
         core_is = omega (arith, number);

@@ -1,5 +1,5 @@
 -- A step by what it answers.
-use Rattle.std.proofs.Common.{ℕ, Ok, Err, refl}
+use Rattle.std.proofs.Common.{◌+◌, ◌≤◌, ℕ, Ok, Err, arith, refl}
 use Rattle.sfs_dev.specs.Disk.{View}
 use Rattle.stamp_table.specs.Table.{TableState}
 use Rattle.disk_box.specs.declared.key.BoxKey.{BoxKey}
@@ -14,19 +14,19 @@ module _ {D : Type 0} (view : D → View) (t : TableState (BoxKey D)) where
   pub steps_ok : {V W : Type 0} (before after : PenHand D) (desk : Desk D) (one : V) (other : W) → Steps view t before after desk (Ok one)
       → Steps view t before after desk (Ok other)
   steps_ok before after desk one other steps =
-      record { goes = steps.goes; room = steps.room; tells = steps.tells; ok = steps.ok; waits = tt; err = tt }
+      record { goes = steps.goes; room = steps.room; tells = steps.tells; once = steps.once; ok = steps.ok; waits = tt; err = tt }
 
   -- one that failed
   pub steps_err : {V W : Type 0} (before after : PenHand D) (desk : Desk D) (faults : ℕ) → Steps view t {V = V} before after desk (Err faults)
       → Steps view t {V = W} before after desk (Err faults)
   steps_err before after desk faults steps =
-      record { goes = steps.goes; room = steps.room; tells = steps.tells; ok = tt; waits = steps.waits; err = steps.err }
+      record { goes = steps.goes; room = steps.room; tells = steps.tells; once = steps.once; ok = tt; waits = steps.waits; err = steps.err }
 
   -- none at all
   pub steps_still : {W : Type 0} (pen : PenHand D) (desk : Desk D) (other : W) → WorksAtDesk view t pen desk → Steps view t pen pen desk (Ok other)
   steps_still pen desk other work =
       let still = goes_still pen in
-      record { goes = still.goes; room = refl; tells = still.tells; ok = work; waits = tt; err = tt }
+      record { goes = still.goes; room = refl; tells = still.tells; once = omega arith; ok = work; waits = tt; err = tt }
 
   -- the slots of a core at work fit what was told of them
   pub slots_told : (pen : PenHand D) (desk : Desk D) → WorksAtDesk view t pen desk → AreTold desk.slots.items

@@ -1,5 +1,6 @@
 pub mod Beginning
 pub mod Committing
+pub mod Counting
 pub mod Emptying
 pub mod Flying
 pub mod Fresh

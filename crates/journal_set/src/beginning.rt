@@ -4,9 +4,11 @@ ghost use Rattle.slot_laws.specs.Labels.{fsync_told, owner};
 ghost use Rattle.disk_box.specs.Kind.{HasKind, kind_of};
 ghost use Rattle.disk_box.specs.declared.desk.Phase.TheVariants as phase;
 ghost use Rattle.disk_box.specs.declared.kind.Kind.TheVariants as kind;
-ghost use Rattle.disk_box.specs.Pens.{WorksAtDesk, PenGoes, own_at};
+ghost use Rattle.disk_box.specs.Pens.{WorksAtDesk, PenGoes, calls_at, own_at, past_at};
 ghost use Rattle.journal_set.specs.Beginning.{BeginsInSlot, CanBeWritten};
 ghost use Rattle.journal_set.specs.Committing.{IsPackedOf};
+ghost use Rattle.journal_set.specs.Counting.{IsBegunAlone};
+ghost use Rattle.slot_laws.specs.Schedule.{AllIdle};
 ghost use Rattle.journal_set.specs.Grants.{grant_at};
 ghost use Rattle.journal_set.specs.Telling.{OfReserved, TellsAtBox, TellsBegin, written_in};
 ghost use Rattle.sfs_base.specs.Lists.{Roomy};
@@ -163,6 +165,8 @@ pub(crate) fn begin_one<D: Disk + Drop>(
     ensures begins { BeginsInSlot k (fsync_told writing.fsync.node writing.fsync.stamp) (own_at pen.old) (own_at pen.new) }
     ensures tells { TellsAtBox (OfReserved (own_at pen.old) (TellsBegin pen.old.view.core (fsync_told writing.fsync.node writing.fsync.stamp)
         (written_in writing))) pen.old pen.new }
+    ensures calls { calls_at pen.new ≡ calls_at pen.old }
+    ensures starts { AllIdle (past_at pen.old).slots → IsBegunAlone writing.packed k (calls_at pen.old) pen.new }
 {
     let Writing {
         packed,

@@ -1,9 +1,11 @@
 // A commit with records, turn by turn and as a whole.
-ghost use Rattle.std.specs.Prelude.{◌≡◌, ◌<◌, Bool, Some, IfErr, false};
+ghost use Rattle.std.specs.Prelude.{◌≡◌, ◌<◌, Bool, Some, IfErr, IfOk, false};
 ghost use Rattle.slot_laws.specs.Labels.{fsync_told};
 ghost use Rattle.disk_box.specs.Pens.{IsOutside, PenGoes, own_at};
 ghost use Rattle.journal_set.specs.Beginning.{CanBeWritten};
 ghost use Rattle.journal_set.specs.Committing.{BeginComes, CanBeCommitted, Commits, HasBegun};
+ghost use Rattle.journal_one.specs.Packed.{contents_of};
+ghost use Rattle.journal_set.specs.Counting.{BeginsInTurn, BeginsScheduled, LandsScheduled, MakesScheduled, WorksInTurn};
 ghost use Rattle.journal_set.specs.Flying.{EndsFlight, IsCausedBy, IsUnderWay, TurnComes, flight_of, flush_of};
 ghost use Rattle.journal_set.specs.Grants.{grant_at};
 ghost use Rattle.journal_set.specs.Telling.{AreTurnsTo, IsOneTurn, OfReserved, TellsCall, TellsGoing, TellsWork, begin_labels, begun_labels, commit_labels, end_labels, flight_labels, written_in, written_of};
@@ -25,6 +27,7 @@ impl<D: Disk + Drop> JournalSet<D> {
     /// sync that made it so, whoever made that. It refuses with `Stopped`, where an earlier commit has failed; with `DiskFailed`, where a device
     /// call of its own failed, on whose slot ever; and with `NoMemory` before its first device call, and then the grant has been given back. It
     /// waits for the box, and lets it go between any two device calls. The gate is told of `Body` once its slot is filled.
+    /// Where no other core comes between its turns, and no slot had a commit at the first, it makes six device calls and one for each fresh block.
     pub fn commit<R: Wait, G: Gate>(
         &self,
         rt: &R,
@@ -47,6 +50,7 @@ impl<D: Disk + Drop> JournalSet<D> {
         ensures tells { TellsCall (OfReserved (own_at pen.old) (λ number. commit_labels pen.old.view.core (fsync_told fsync.node fsync.stamp)
             (written_of tx) number result)) pen.old pen.new }
         ensures cause { IfErr result (IsCausedBy pen.new) }
+        ensures counts { IfOk result (λ ack. MakesScheduled (contents_of tx) pen.old pen.new) }
     {
         let writing = match Writing::new(alloc, tx, grant, fsync) {
             Ok(writing) => writing,
@@ -80,6 +84,7 @@ impl<D: Disk + Drop> JournalSet<D> {
         ensures tells { TellsCall (OfReserved (own_at pen.old) (λ number. AreTurnsTo TellsWork (begun_labels pen.old.view.core
             (fsync_told writing.fsync.node writing.fsync.stamp) (written_in writing) number result))) pen.old pen.new }
         ensures cause { IfErr result (IsCausedBy pen.new) }
+        ensures counts { IfOk result (BeginsScheduled writing.packed pen.old pen.new) }
     {
         for _ in rt.forever() {
             match self.begin_turn(rt, pen, writing) {
@@ -110,6 +115,7 @@ impl<D: Disk + Drop> JournalSet<D> {
         ensures tells { TellsCall (IsOneTurn (OfReserved (own_at pen.old) (λ number. begin_labels pen.old.view.core
             (fsync_told writing.fsync.node writing.fsync.stamp) (written_in writing) number result))) pen.old pen.new }
         ensures cause { IfErr result (IsCausedBy pen.new) }
+        ensures counts { BeginsInTurn writing.packed pen.old pen.new result }
     {
         self.line.join();
         let mut desk = enter(rt, &self.table, pen);
@@ -137,6 +143,7 @@ impl<D: Disk + Drop> JournalSet<D> {
         ensures tells { TellsCall (AreTurnsTo (TellsGoing pen.old.view.core flight.commit (flush_of flight))
             (end_labels pen.old.view.core flight.commit (flush_of flight) result)) pen.old pen.new }
         ensures cause { IfErr result (IsCausedBy pen.new) }
+        ensures counts { IfOk result (λ ack. LandsScheduled flight.slot pen.old pen.new) }
     {
         for _ in rt.forever() {
             match self.commit_turn(rt, pen, &mut flight) {
@@ -166,6 +173,7 @@ impl<D: Disk + Drop> JournalSet<D> {
         ensures comes { TurnComes flight.old pen.old.view.core (own_at pen.old) (own_at pen.new) result }
         ensures tells { TellsCall (IsOneTurn (flight_labels pen.old.view.core flight.old.commit (flush_of flight.old) result)) pen.old pen.new }
         ensures cause { IfErr result (IsCausedBy pen.new) }
+        ensures counts { WorksInTurn flight.old.slot pen.old pen.new result }
     {
         self.line.join();
         let mut desk = enter(rt, &self.table, pen);

@@ -1,10 +1,12 @@
 // A commit under way in a slot of its core's own.
-ghost use Rattle.std.specs.Prelude.{◌≡◌, ◌<◌, length, Bool, None, IfOk, IfErr, true, false};
+ghost use Rattle.std.specs.Prelude.{◌≡◌, ◌⊎◌, ◌<◌, length, Bool, None, IfOk, IfErr, OnOk, true, false};
 ghost use Rattle.slot_laws.specs.Labels.{owner};
+ghost use Rattle.disk_box.specs.Counting.{CountsDown};
 ghost use Rattle.disk_box.specs.Kind.{HasKind};
 ghost use Rattle.disk_box.specs.declared.kind.Kind.TheVariants as kind;
 ghost use Rattle.disk_box.specs.Pens.{IsAtDesk, PenGoes, WorksAtDesk, own_at, past_at};
 ghost use Rattle.disk_box.specs.Steps.{Steps};
+ghost use Rattle.journal_set.specs.Counting.{WorksOnce};
 ghost use Rattle.journal_set.specs.Flying.{IsCausedBy, IsUnderWay, NotLanded, TurnComes, flight_of, flush_of};
 ghost use Rattle.journal_set.specs.Telling.{TellsAtBox, flight_labels};
 
@@ -58,6 +60,7 @@ pub(crate) fn turn_at<D: Disk + Drop>(
     ensures comes { TurnComes flight.old pen.old.view.core (own_at pen.old) (own_at pen.new) result }
     ensures tells { TellsAtBox (flight_labels pen.old.view.core flight.old.commit (flush_of flight.old) result) pen.old pen.new }
     ensures cause { IfErr result (IsCausedBy pen.new) }
+    ensures counts { WorksOnce flight.old.slot pen.old pen.new result }
 {
     if let Some(turn) = learn(table, pen, desk) {
         let ack = Ack {
@@ -90,6 +93,7 @@ fn advance<D: Disk + Drop>(
     ensures comes { TurnComes flight.old pen.old.view.core (own_at pen.old) (own_at pen.new) result }
     ensures tells { TellsAtBox (flight_labels pen.old.view.core flight.old.commit (flush_of flight.old) result) pen.old pen.new }
     ensures cause { IfErr result (IsCausedBy pen.new) }
+    ensures counts { WorksOnce flight.old.slot pen.old pen.new result }
 {
     match desk.kind_at(flight.slot) {
         Kind::Filling => before_gate(table, pen, desk, flight),
@@ -109,6 +113,7 @@ fn before_gate<D: Disk + Drop>(
 ) -> Result<Progress, CommitFault>
     requires work { WorksAtDesk D.view table.now pen.old desk.old }
     requires within { flight.old.slot < length desk.old.slots.items }
+    requires kind { HasKind desk.old.slots.items flight.old.slot kind.Filling ⊎ HasKind desk.old.slots.items flight.old.slot kind.Filled }
     requires under { IsUnderWay flight.old false (own_at pen.old) }
     requires learned { (past_at pen.old).waits pen.old.view.core ≡ None }
     ensures at { IsAtDesk D.view table.now pen.new desk.new }
@@ -118,6 +123,7 @@ fn before_gate<D: Disk + Drop>(
     ensures comes { TurnComes flight.old pen.old.view.core (own_at pen.old) (own_at pen.new) result }
     ensures tells { TellsAtBox (flight_labels pen.old.view.core flight.old.commit (flush_of flight.old) result) pen.old pen.new }
     ensures cause { IfErr result (IsCausedBy pen.new) }
+    ensures counts { WorksOnce flight.old.slot pen.old pen.new result }
 {
     match fill_or_seal(table, pen, desk, flight) {
         Ok(progress) => Ok(progress),
@@ -146,6 +152,7 @@ fn open_turn<D: Disk + Drop>(
     ensures comes { TurnComes flight.old pen.old.view.core (own_at pen.old) (own_at pen.new) result }
     ensures tells { TellsAtBox (flight_labels pen.old.view.core flight.old.commit (flush_of flight.old) result) pen.old pen.new }
     ensures cause { IfErr result (IsCausedBy pen.new) }
+    ensures counts { WorksOnce flight.old.slot pen.old pen.new result }
 {
     if !flight.told {
         flight.told = true;
@@ -171,6 +178,7 @@ fn settle_turn<D: Disk + Drop>(
     flight: &mut Flight,
 ) -> Result<Progress, CommitFault>
     requires work { WorksAtDesk D.view table.now pen.old desk.old }
+    requires kind { HasKind desk.old.slots.items flight.old.slot kind.Opened }
     requires under { IsUnderWay flight.old true (own_at pen.old) }
     requires learned { (past_at pen.old).waits pen.old.view.core ≡ None }
     ensures at { IsAtDesk D.view table.now pen.new desk.new }
@@ -180,6 +188,7 @@ fn settle_turn<D: Disk + Drop>(
     ensures comes { TurnComes flight.old pen.old.view.core (own_at pen.old) (own_at pen.new) result }
     ensures tells { TellsAtBox (flight_labels pen.old.view.core flight.old.commit (flush_of flight.old) result) pen.old pen.new }
     ensures cause { IfErr result (IsCausedBy pen.new) }
+    ensures counts { WorksOnce flight.old.slot pen.old pen.new result }
 {
     match shut_or_settle(table, pen, desk, flight) {
         Ok(()) => Ok(Progress::Goes),
@@ -199,11 +208,13 @@ fn fill_or_seal<D: Disk + Drop>(
 ) -> Result<Progress, u64>
     requires work { WorksAtDesk D.view table.now pen.old desk.old }
     requires within { flight.old.slot < length desk.old.slots.items }
+    requires kind { HasKind desk.old.slots.items flight.old.slot kind.Filling ⊎ HasKind desk.old.slots.items flight.old.slot kind.Filled }
     requires own { owner pen.old.table.given.layout flight.old.slot ≡ pen.old.view.core }
     ensures steps { Steps D.view table.now pen.old pen.new desk.new result }
     ensures own { own_at pen.new ≡ own_at pen.old }
     ensures same { (opened : Bool) → flight_of flight.new opened ≡ flight_of flight.old opened }
     ensures progress { IfOk result NotLanded }
+    ensures counts { IfOk result (λ did. CountsDown flight.old.slot pen.old pen.new) }
 {
     let core = pen.number();
     if let Some(slot) = own_to_place(desk, core) {
@@ -232,9 +243,11 @@ fn shut_or_settle<D: Disk + Drop>(
     flight: &mut Flight,
 ) -> Result<(), u64>
     requires work { WorksAtDesk D.view table.now pen.old desk.old }
+    requires kind { HasKind desk.old.slots.items flight.old.slot kind.Opened }
     ensures steps { Steps D.view table.now pen.old pen.new desk.new result }
     ensures own { own_at pen.new ≡ own_at pen.old }
     ensures same { (opened : Bool) → flight_of flight.new opened ≡ flight_of flight.old opened }
+    ensures counts { OnOk result (CountsDown flight.old.slot pen.old pen.new) }
 {
     let core = pen.number();
     if let Some(slot) = own_with(desk, core, Kind::Copied) {

@@ -3,10 +3,12 @@ ghost use Rattle.std.specs.Prelude.{◌≡◌, Some, IfErr, false, length};
 ghost use Rattle.slot_laws.specs.Labels.{fsync_told, owner};
 ghost use Rattle.disk_box.specs.Calls.{awaits_sync};
 ghost use Rattle.disk_box.specs.Kind.{HasKind};
-ghost use Rattle.disk_box.specs.Pens.{IsAtDesk, PenGoes, WorksAtDesk, own_at};
+ghost use Rattle.disk_box.specs.Pens.{IsAtDesk, PenGoes, WorksAtDesk, calls_at, own_at, past_at};
 ghost use Rattle.disk_box.specs.declared.kind.Kind.TheVariants as kind;
 ghost use Rattle.journal_set.specs.Beginning.{CanBeWritten};
 ghost use Rattle.journal_set.specs.Committing.{BeginComes, BeginsFlight};
+ghost use Rattle.journal_set.specs.Counting.{BeginsOnce, IsBegunAlone};
+ghost use Rattle.slot_laws.specs.Schedule.{AllIdle};
 ghost use Rattle.journal_set.specs.Flying.{IsCausedBy};
 ghost use Rattle.journal_set.specs.Grants.{grant_at};
 ghost use Rattle.journal_set.specs.OwnSlots.{NoneIdle};
@@ -47,6 +49,7 @@ pub(crate) fn begin_at<D: Disk + Drop>(
     ensures tells { TellsAtBox (OfReserved (own_at pen.old) (λ number. begin_labels pen.old.view.core
         (fsync_told writing.fsync.node writing.fsync.stamp) (written_in writing) number result)) pen.old pen.new }
     ensures cause { IfErr result (IsCausedBy pen.new) }
+    ensures counts { BeginsOnce writing.packed pen.old pen.new result }
 {
     let core = pen.number();
     let Some(number) = desk.ledger.number(core) else {
@@ -87,6 +90,8 @@ fn begin_in<D: Disk + Drop>(
     ensures fsync { result.fsync ≡ writing.fsync }
     ensures tells { TellsAtBox (OfReserved (own_at pen.old) (TellsBegin pen.old.view.core (fsync_told writing.fsync.node writing.fsync.stamp)
         (written_in writing))) pen.old pen.new }
+    ensures calls { calls_at pen.new ≡ calls_at pen.old }
+    ensures starts { AllIdle (past_at pen.old).slots → IsBegunAlone writing.packed result.slot (calls_at pen.old) pen.new }
 {
     let fsync = writing.fsync;
     begin_one(table, pen, desk, k, writing);
@@ -99,7 +104,7 @@ fn begin_in<D: Disk + Drop>(
     }
 }
 
-// No slot of the core's own is idle: one device call on the oldest commit that lingers in a slot, whoever's it is.
+// No slot of the core's own is idle: one device call at most, on the oldest commit that lingers in a slot, whoever's it is.
 fn free_slot<D: Disk + Drop>(
     table: &BoxTable<D>,
     pen: &mut Pen<D>,
@@ -118,6 +123,7 @@ fn free_slot<D: Disk + Drop>(
     ensures tells { TellsAtBox (OfReserved (own_at pen.old) (λ number. begin_labels pen.old.view.core
         (fsync_told writing.fsync.node writing.fsync.stamp) (written_in writing) number result)) pen.old pen.new }
     ensures cause { IfErr result (IsCausedBy pen.new) }
+    ensures counts { BeginsOnce writing.packed pen.old pen.new result }
 {
     let Some(k) = oldest(desk) else {
         unreachable!()

@@ -19,3 +19,4 @@ pub mod Opened
 pub mod Shut
 pub mod Running
 pub mod Held
+pub mod Calls

@@ -8,6 +8,7 @@ use Rattle.slot_laws.specs.Slots.{Slots, SlotWork}
 use Rattle.slot_laws.specs.Labels.{first_past, BoxPast, after_label}
 use Rattle.slot_laws.specs.Fits.{PastFits}
 use Rattle.slot_laws.specs.Rules.{MayLabel}
+use Rattle.slot_laws.specs.Telling.{is_device_call}
 use Rattle.slot_laws.specs.declared.label.Label.TheVariants as label
 use Rattle.slot_image_laws.specs.Run.{Writes, Syncs, KeepsLaws, RunFits, BeganWith, BeginWell}
 use Rattle.slot_image_laws.specs.Images.{RunStart, LeavesPrefixes}
@@ -38,6 +39,11 @@ IsDoneBy (label.Placed slot n done) slots old new =
 IsDoneBy (label.Shut slot done) slots old new =
     (work : SlotWork) → slots slot ≡ Some work → Writes done (gate_piece work.job.place 0) old new
 IsDoneBy _ slots old new = ⊥
+
+-- Labels count as device calls that tell of one, and no others.
+pub record DeviceCallsAreTold (old new : View) : Type 0 where
+  pub done : (fact : Label) (slots : Slots) → IsDoneBy fact slots old new → is_device_call fact ≡ true
+  pub told : (fact : Label) → IsToldOf fact new → is_device_call fact ≡ false
 
 -- No label has been told yet of a disk.
 abbrev pub FirstRunsFit : View → Type 0

@@ -1,6 +1,6 @@
 //! What is proved of images: each function's contract is a law.
 ghost use Rattle.slot_image_laws.specs.Held.{DurableCommitsStand, FirstImagesHaveTheParts};
-ghost use Rattle.slot_image_laws.specs.Labels.{DoneLabelsFit, FailedSyncsFit, FirstRunsFit, RecordsAreLeft, ToldLabelsFit};
+ghost use Rattle.slot_image_laws.specs.Labels.{DeviceCallsAreTold, DoneLabelsFit, FailedSyncsFit, FirstRunsFit, RecordsAreLeft, ToldLabelsFit};
 ghost use Rattle.slot_image_laws.specs.Laws.{BeginsKeep, EmptyCommitsKeep, FailedSyncsKeep, FillsKeep, IdlesKeep, OpensKeep, PlacesKeep, QuietTurnsKeep, RunsStart, SettlesKeep, ShutsKeep, SyncsKeep};
 
 use sfs_dev::Disk;
@@ -78,6 +78,11 @@ pub fn told_labels_fit<D: Disk>(disk: &D)
 /// So does one that tells of a device call.
 pub fn done_labels_fit<D: Disk>(old: &D, new: &D)
     ensures { DoneLabelsFit (D.view old.now) (D.view new.now) }
+{}
+
+/// Those labels count as device calls that tell of one, and no others.
+pub fn device_calls_are_told<D: Disk>(old: &D, new: &D)
+    ensures { DeviceCallsAreTold (D.view old.now) (D.view new.now) }
 {}
 
 /// So does a sync that failed.

@@ -25,3 +25,5 @@ pub mod WorkedMaps
 pub mod WorkedLonger
 pub mod WorkedAlong
 pub mod Telling
+pub mod Schedule
+pub mod DeviceCalls

@@ -3,6 +3,7 @@ pub mod Nodes
 pub mod Labels
 pub mod Rules
 pub mod Telling
+pub mod Schedule
 pub mod Fits
 pub mod Laws
 pub mod Rings

@@ -1,5 +1,5 @@
 -- What a core tells turn by turn at the box: of work at slots, and of its own commits.
-use Rattle.std.specs.Prelude.{◌≡◌, ◌⊎◌, ◌∷◌, ◌++◌, ℕ, Bool, List, [], flat_map, map, Some}
+use Rattle.std.specs.Prelude.{◌≡◌, ◌⊎◌, ◌+◌, ◌∷◌, ◌++◌, ℕ, Bool, true, false, List, [], flat_map, if◌then◌else◌, map, Some}
 use Rattle.sfs_base.specs.declared.numbers.NodeId.{NodeId}
 use Rattle.sfs_base.specs.declared.numbers.SpaceKind.{SpaceKind}
 use Rattle.sfs_base.specs.declared.numbers.Stamp.{Stamp}
@@ -12,7 +12,7 @@ use Rattle.cut_laws.specs.Closure.{Flush}
 use Rattle.cut_laws.specs.Rules.{IsOneOf}
 use Rattle.turn_laws.specs.Books.{flush_at}
 use Rattle.stamp_table.specs.declared.event.Event.{Event}
-use Rattle.stamp_table.specs.declared.event.Event.TheVariants.{Told}
+use Rattle.stamp_table.specs.declared.event.Event.TheVariants.{Called, Told}
 use Rattle.slot_laws.specs.declared.label.Label.{Label}
 use Rattle.slot_laws.specs.declared.label.Label.TheVariants as label
 use Rattle.slot_laws.specs.declared.label.Seen.{Seen}
@@ -36,6 +36,21 @@ IsOfStep _ = ⊥
 abbrev pub AreSteps : List Label → Type 0
 AreSteps [] = Unit {0}
 AreSteps (fact ∷ facts) = IsOfStep fact × AreSteps facts
+
+-- whether a label tells of a device call
+abbrev pub is_device_call : Label → Bool
+is_device_call (label.Filled slot piece done) = true
+is_device_call (label.Synced now) = true
+is_device_call (label.Opened slot done cut opened) = true
+is_device_call (label.Placed slot n done) = true
+is_device_call (label.Shut slot done) = true
+is_device_call _ = false
+
+-- of how many device calls events tell
+abbrev pub device_calls : List (Event Label) → ℕ
+device_calls [] = 0
+device_calls (Called entry ∷ log) = device_calls log
+device_calls (Told core fact ∷ log) = (if is_device_call fact then 1 else 0) + device_calls log
 
 -- whether a label tells of a step that opens no gate: it takes no turn of its core's own
 abbrev pub IsOfWork : Label → Type 0

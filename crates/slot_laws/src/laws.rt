@@ -4,6 +4,7 @@ ghost use Rattle.slot_laws.specs.Grants.{GrantsAreOnes, ReservingsTakeTheLeast, 
 ghost use Rattle.slot_laws.specs.Lasts.{LabelsKeepTheBox, NodesCount, NodesFit, NotedTurnsKeepNodes, ReservingsKnew, ReturnsRestore};
 ghost use Rattle.slot_laws.specs.Laws.{LabelsCountFaults, LabelsMergePens, LabelsRise, LawfulFits, OwnIs, PensMakeTheRecord, StampsAreFew, StampsAreLeft};
 ghost use Rattle.slot_laws.specs.Rings.{GreaterStampsAreNewer, SlotsCloseInOrder};
+ghost use Rattle.slot_laws.specs.Schedule.{BeginningsTakeAll};
 ghost use Rattle.slot_laws.specs.Telling.{PensGoOn, PensTellTurns, TurnsAreOfOne};
 ghost use Rattle.slot_laws.specs.Worked.{LabelsCanBeMet};
 ghost use Rattle.slot_laws.specs.WorkedLonger.{LingeringSlotsCanBeMet};
@@ -139,4 +140,9 @@ pub fn pens_tell_turns()
 /// The turns that are told in one turn at the box are of its core and of its fsync.
 pub fn turns_are_of_one()
     ensures { TurnsAreOfOne }
+{}
+
+/// A commit that begins takes a device call for each piece that fills its slot, and three more.
+pub fn beginnings_take_all()
+    ensures { BeginningsTakeAll }
 {}

@@ -1,9 +1,10 @@
 // The step that opens a slot's gate.
-ghost use Rattle.std.specs.Prelude.{◌≡◌};
+ghost use Rattle.std.specs.Prelude.{◌≡◌, ◌+◌, OnOk};
 ghost use Rattle.slot_laws.specs.Labels.{owner};
 ghost use Rattle.disk_box.specs.declared.kind.Kind.TheVariants as kind;
+ghost use Rattle.disk_box.specs.Counting.{CountsDown};
 ghost use Rattle.disk_box.specs.Kind.{HasKind};
-ghost use Rattle.disk_box.specs.Pens.{WorksAtDesk, own_at};
+ghost use Rattle.disk_box.specs.Pens.{WorksAtDesk, calls_at, own_at};
 ghost use Rattle.disk_box.specs.Steps.{OpensFlight, Steps};
 ghost use Rattle.disk_box.specs.Turns.{TellsOpening};
 
@@ -25,7 +26,9 @@ pub fn open_one<D: Disk + Drop>(
     requires kind { HasKind desk.old.slots.items k kind.Sealed }
     ensures steps { Steps D.view table.now pen.old pen.new desk.new result }
     ensures own { OpensFlight pen.old.view.core (own_at pen.old) (own_at pen.new) }
+    ensures calls { OnOk result (calls_at pen.new ≡ calls_at pen.old + 1) }
     ensures tells { TellsOpening k pen.old pen.new }
+    ensures counts { OnOk result (CountsDown k pen.old pen.new) }
 {
     let result = desk.slots[k].open(&mut desk.disk);
     let done = result.is_ok();

@@ -1,8 +1,8 @@
 // The step that shuts a slot's gate.
-ghost use Rattle.std.specs.Prelude.{◌≡◌};
+ghost use Rattle.std.specs.Prelude.{◌≡◌, ◌+◌, OnOk};
 ghost use Rattle.disk_box.specs.declared.kind.Kind.TheVariants as kind;
 ghost use Rattle.disk_box.specs.Kind.{HasKind};
-ghost use Rattle.disk_box.specs.Pens.{WorksAtDesk, own_at};
+ghost use Rattle.disk_box.specs.Pens.{WorksAtDesk, calls_at, own_at};
 ghost use Rattle.disk_box.specs.Steps.{Steps};
 
 use crate::{BoxTable, Desk, Pen, note};
@@ -20,6 +20,7 @@ pub fn shut_one<D: Disk + Drop>(
     requires kind { HasKind desk.old.slots.items k kind.Copied }
     ensures steps { Steps D.view table.now pen.old pen.new desk.new result }
     ensures own { own_at pen.new ≡ own_at pen.old }
+    ensures calls { OnOk result (calls_at pen.new ≡ calls_at pen.old + 1) }
 {
     let result = desk.slots[k].shut(&mut desk.disk);
     let done = result.is_ok();

@@ -1,7 +1,7 @@
 // A step towards an idle slot, whoever's it is, and whether others are about to fill theirs.
-ghost use Rattle.std.specs.Prelude.{◌≡◌, ◌<◌, ◌≤◌, true, length};
+ghost use Rattle.std.specs.Prelude.{◌≡◌, ◌<◌, ◌≤◌, ◌+◌, OnOk, true, length};
 ghost use Rattle.disk_box.specs.Oldest.{IsOldestSlot, OthersWrite};
-ghost use Rattle.disk_box.specs.Pens.{WorksAtDesk, own_at};
+ghost use Rattle.disk_box.specs.Pens.{WorksAtDesk, calls_at, own_at};
 ghost use Rattle.disk_box.specs.Steps.{Steps};
 
 use crate::{BoxTable, Desk, Kind, Pen, place_one, shut_one, sync_all};
@@ -20,6 +20,7 @@ pub fn step_oldest<D: Disk + Drop>(
     requires oldest { IsOldestSlot desk.old.slots.items k }
     ensures steps { Steps D.view table.now pen.old pen.new desk.new result }
     ensures own { own_at pen.new ≡ own_at pen.old }
+    ensures calls { OnOk result (calls_at pen.new ≡ calls_at pen.old + 1) }
 {
     match desk.kind_at(k) {
         Kind::Durable => place_one(table, pen, desk, k),

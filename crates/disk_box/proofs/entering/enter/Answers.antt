@@ -1,6 +1,6 @@
 use Rattle.std.proofs.Common.{◌∙◌, sym, ap}
 use Rattle.disk_box.specs.Pens.{PenHand}
-use Rattle.disk_box.proofs.Entered.{fits_now, holds_now, is_desk, may_take, mine_now, own_now, space_now}
+use Rattle.disk_box.proofs.Entered.{fits_now, holds_now, is_desk, may_take, mine_now, own_now, space_now, takes_now}
 use Rattle.disk_box.proofs.entering.enter.Goals as goal
 
 pub tell-requires-clause-may : goal.tell-requires-clause-may
@@ -39,4 +39,13 @@ returns-clause-mine g c =
     let holding = c.hold_one.new.self in
     let brought = sym (is_desk g.D.Disk.view t pen holding c.requires.outside c.hold_one.ensures c.replace.result c.replace.ensures.old) ∙ c.in-Some.is in
     mine_now g.D.Disk.view t pen holding c.requires.outside c.hold_one.ensures c.in-Some.desk brought c.replace.new.self c.tell.new.self
+    c.replace.ensures.new c.tell.ensures
+
+pub returns-clause-takes : goal.returns-clause-takes
+returns-clause-takes g c =
+    let t = c.args.table.now in
+    let pen = c.args.pen.now in
+    let holding = c.hold_one.new.self in
+    let brought = sym (is_desk g.D.Disk.view t pen holding c.requires.outside c.hold_one.ensures c.replace.result c.replace.ensures.old) ∙ c.in-Some.is in
+    takes_now g.D.Disk.view t pen holding c.requires.outside c.hold_one.ensures c.in-Some.desk brought c.replace.new.self c.tell.new.self
     c.replace.ensures.new c.tell.ensures

@@ -49,4 +49,14 @@ returns-clause-some g c =
     (lands pen.table.given pen.view.core (past_at pen) (past_fits_at c.args.table.now pen at.holds) c.in_ok-turn.turn (waits ∙ c.in_ok-turn.was)))
 
 pub returns-clause-tells : goal.returns-clause-tells
-returns-clause-tells g c = c.note.ensures.tells.mine_is
+returns-clause-tells g c = c.note.ensures.tells
+
+pub returns-clause-waits : goal.returns-clause-waits
+returns-clause-waits g c =
+    let pen = c.args.pen.now in
+    let at = c.requires.at in
+    let low = subst (λ n. pen.view.core < n) (sym at.fits.frame.cores) at.holds.core_is in
+    let waits = wait_read c.args.desk.now.waits.items c.number-core.result.0 pen.view.core c.index.result.now (past_at pen).waits at.fits.frame.waits low
+    c.number-core.ensures c.index.ensures
+    in
+    waits ∙ c.in_ok-turn.was

@@ -23,6 +23,7 @@ use Rattle.journal_set.proofs.Begun.{Begin, began_rule, begin_of, begun_fits, id
 use Rattle.journal_set.proofs.Grants.{has_reserved}
 use Rattle.journal_set.proofs.Returned.{may_return, number_there}
 use Rattle.journal_set.proofs.beginning.begin_one.Goals as goal
+use Rattle.journal_set.proofs.CallsTold.{begin_calls, begun_due}
 
 pub unreachable-requires : goal.unreachable-requires
 unreachable-requires g c =
@@ -196,9 +197,13 @@ returns-clause-work g c =
     })
     (some_same (sym (ap (option_map (λ (one : OpenView). one.number)) owes.there) ∙ (sym c.number.ensures ∙ c.in-Some.is))) opens goes (record {
       fits = record {
-        job_is = refl;
-        shut = record { aloft = refl; left = refl; read = refl };
-        written = λ n low. let none = c.begin.ensures.done in absurd (omega (arith, low, none));
+        being = record {
+          job_is = refl;
+          shut = record { aloft = refl; left = refl; read = refl };
+          written = λ n low. let none = c.begin.ensures.done in absurd (omega (arith, low, none));
+          rest = λ n high. (refl, refl);
+        };
+        more = (let none = c.begin.ensures.done in omega (arith, none));
       };
       notes = record {
         commit_is = refl;
@@ -242,3 +247,16 @@ returns-clause-tells g c =
       };
       mine_is = c.note.ensures.tells.mine_is;
     }
+
+pub returns-clause-calls : goal.returns-clause-calls
+returns-clause-calls g c =
+    begin_calls (begin_of c.args.k c.in-Some.number c.begin.result c.args.writing) c.args.pen.now c.note.new.pen c.note.ensures.tells
+
+pub returns-clause-starts : goal.returns-clause-starts
+returns-clause-starts g c idle =
+    let pen = c.args.pen.now in
+    let desk = c.args.desk.now in
+    let has = kind_read desk.slots.items c.args.k kind.Idle c.index_mut.result.now c.requires.kind c.index_mut.ensures.value in
+    let place = idle_at g.D.Disk.view c.args.table.now pen desk c.args.k c.take_idle-idle.result c.requires.work has c.take_idle-idle.ensures in
+    begun_due (begin_of c.args.k c.in-Some.number c.begin.result c.args.writing) pen c.note.new.pen c.note.ensures.tells c.args.writing.packed c.args.k
+    (ap (λ (j : Job). j.place.slot) c.begin.ensures.job ∙ ap (λ (p : Place). p.slot) place.1) (ap (λ (j : Job). j.fresh) c.begin.ensures.job) idle

@@ -7,6 +7,10 @@ use Rattle.journal_set.proofs.Failing.{at_of_work, fails_shut, owes_shut, progre
 use Rattle.journal_set.proofs.flying.before_gate.Goals as goal
 use Rattle.journal_set.proofs.Told.{tells_work}
 use Rattle.journal_set.proofs.ToldCommits.{going_is, fails_in_slot}
+use Rattle.std.proofs.Common.{◌≤◌, ◌+◌, arith}
+use Rattle.disk_box.specs.Counting.{due_at}
+use Rattle.disk_box.specs.Pens.{past_at}
+use Rattle.journal_set.proofs.CallsTold.{fail_calls, leaves_none}
 
 pub fill_or_seal-requires-clause-own : goal.fill_or_seal-requires-clause-own
 fill_or_seal-requires-clause-own g c κs within =
@@ -58,3 +62,16 @@ pub returns-in-Err-clause-tells : goal.returns-in-Err-clause-tells
 returns-in-Err-clause-tells g c =
     fails_in_slot c.args.pen.now c.fill_or_seal.new.pen c.fail_unopened.new.pen c.in-Err.faults c.args.flight.now c.fill_or_seal.new.flight
     c.fill_or_seal.ensures.same c.in-Err.ensures.steps.goes c.in-Err.ensures.steps.tells c.fill_or_seal.ensures.own c.fail_unopened.ensures.tells
+
+pub returns-in-Ok-clause-counts : goal.returns-in-Ok-clause-counts
+returns-in-Ok-clause-counts g c = record {
+  once = c.in-Ok.ensures.steps.once;
+  down = (c.in-Ok.ensures.counts, leaves_none c.in-Ok.progress c.in-Ok.ensures.progress (due_at (past_at c.fill_or_seal.new.pen) c.args.flight.now.slot));
+}
+
+pub returns-in-Err-clause-counts : goal.returns-in-Err-clause-counts
+returns-in-Err-clause-counts g c =
+    let flight = c.fill_or_seal.new.flight in
+    let same = fail_calls c.fill_or_seal.new.pen c.fail_unopened.new.pen flight.commit c.in-Err.faults (flush_of flight) c.fail_unopened.ensures.tells in
+    let once = c.in-Err.ensures.steps.once in
+    record { once = omega (arith, same, once); down = tt }

@@ -8,6 +8,8 @@ use Rattle.journal_set.proofs.Turned.{goes_twice, opened_under}
 use Rattle.journal_set.proofs.flying.open_turn.Goals as goal
 use Rattle.journal_set.proofs.ToldCommits.{opens_under, fails_opening}
 use Rattle.journal_set.proofs.Told.{tells_nothing}
+use Rattle.std.proofs.Common.{◌≤◌, ◌+◌, arith}
+use Rattle.journal_set.proofs.CallsTold.{fail_begun_calls, still_down}
 
 pub open_one-requires-clause-own : goal.open_one-requires-clause-own
 open_one-requires-clause-own g c κs within =
@@ -57,3 +59,16 @@ returns-in-Err-clause-tells g c =
 pub returns-then-not-flight-clause-tells : goal.returns-then-not-flight-clause-tells
 returns-then-not-flight-clause-tells g c =
     tells_nothing c.args.pen.now (TellsGoing c.args.pen.now.view.core c.args.flight.now.commit (flush_of c.args.flight.now)) tt
+
+pub returns-then-not-flight-clause-counts : goal.returns-then-not-flight-clause-counts
+returns-then-not-flight-clause-counts g c = record { once = omega arith; down = (still_down c.args.flight.now.slot c.args.pen.now, tt) }
+
+pub returns-in-Ok-clause-counts : goal.returns-in-Ok-clause-counts
+returns-in-Ok-clause-counts g c = record { once = c.in-Ok.ensures.steps.once; down = (c.in-Ok.ensures.counts, tt) }
+
+pub returns-in-Err-clause-counts : goal.returns-in-Err-clause-counts
+returns-in-Err-clause-counts g c =
+    let flight = c.args.flight.now in
+    let same = fail_begun_calls c.open_one.new.pen c.fail_opened.new.pen flight.commit c.in-Err.faults (flush_of flight) c.fail_opened.ensures.tells in
+    let once = c.in-Err.ensures.steps.once in
+    record { once = omega (arith, same, once); down = tt }

@@ -6,6 +6,8 @@ use Rattle.journal_set.proofs.Turned.{goes_twice}
 use Rattle.journal_set.proofs.flying.settle_turn.Goals as goal
 use Rattle.journal_set.proofs.Told.{tells_work}
 use Rattle.journal_set.proofs.ToldCommits.{fails_working}
+use Rattle.std.proofs.Common.{◌≤◌, ◌+◌, arith}
+use Rattle.journal_set.proofs.CallsTold.{fail_begun_calls}
 
 pub fail_opened-requires-clause-learned : goal.fail_opened-requires-clause-learned
 fail_opened-requires-clause-learned g c κs within = still_learned g.D.Disk.view c.args.table.now c.args.pen.now c.shut_or_settle.new.pen
@@ -49,3 +51,13 @@ pub returns-in-Err-clause-tells : goal.returns-in-Err-clause-tells
 returns-in-Err-clause-tells g c =
     fails_working c.args.pen.now c.shut_or_settle.new.pen c.fail_opened.new.pen c.in-Err.faults c.args.flight.now c.shut_or_settle.new.flight
     c.shut_or_settle.ensures.same c.in-Err.ensures.steps.goes c.in-Err.ensures.steps.tells c.shut_or_settle.ensures.own c.fail_opened.ensures.tells
+
+pub returns-in-Ok-clause-counts : goal.returns-in-Ok-clause-counts
+returns-in-Ok-clause-counts g c = record { once = c.in-Ok.ensures.steps.once; down = (c.in-Ok.ensures.counts, tt) }
+
+pub returns-in-Err-clause-counts : goal.returns-in-Err-clause-counts
+returns-in-Err-clause-counts g c =
+    let flight = c.shut_or_settle.new.flight in
+    let same = fail_begun_calls c.shut_or_settle.new.pen c.fail_opened.new.pen flight.commit c.in-Err.faults (flush_of flight) c.fail_opened.ensures.tells in
+    let once = c.in-Err.ensures.steps.once in
+    record { once = omega (arith, same, once); down = tt }

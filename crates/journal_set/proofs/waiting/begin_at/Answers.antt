@@ -8,6 +8,9 @@ use Rattle.journal_set.specs.OwnSlots.{NoneIdle}
 use Rattle.journal_set.proofs.Aloft.{works_at}
 use Rattle.journal_set.proofs.Unbegun.{its_reserved, owes_unbegun, some_reserved, unbegun_learned}
 use Rattle.journal_set.proofs.waiting.begin_at.Goals as goal
+use Rattle.std.proofs.Common.{◌≤◌, ◌+◌}
+use Rattle.slot_laws.specs.Labels.{fsync_told}
+use Rattle.journal_set.proofs.CallsTold.{halt_calls}
 
 pub unreachable-requires : goal.unreachable-requires
 unreachable-requires g c =
@@ -84,3 +87,15 @@ returns-then-is_some-clause-tells g c = record {
   };
   mine_is = c.halt-faults.ensures.tells.mine_is;
 }
+
+pub returns-then-is_some-clause-counts : goal.returns-then-is_some-clause-counts
+returns-then-is_some-clause-counts g c =
+    let same = halt_calls c.args.pen.now c.halt-faults.new.pen c.in-Some.number
+    (fsync_told c.args.writing.fsync.node c.args.writing.fsync.stamp) c.halt-faults.ensures.tells
+    in
+    record { once = omega (arith, same); starts = tt }
+
+pub returns-in-Some-own_with-clause-counts : goal.returns-in-Some-own_with-clause-counts
+returns-in-Some-own_with-clause-counts g c =
+    let same = c.begin_in-flight.ensures.calls in
+    record { once = omega (arith, same); starts = c.begin_in-flight.ensures.starts }

@@ -8,12 +8,14 @@ use Rattle.disk_box.proofs.Owners.{slots_many, waits_some}
 use Rattle.journal_set.specs.Telling.{OfReserved, TellsWork, TellsFailing}
 use Rattle.journal_set.proofs.Failing.{at_of_work, risen_still, still_learned}
 use Rattle.journal_set.proofs.GrantKept.{grant_kept}
-use Rattle.journal_set.proofs.Lingering.{own_slot, some_lingers}
+use Rattle.journal_set.proofs.Lingering.{own_slot, some_commit, some_lingers}
 use Rattle.journal_set.proofs.Turned.{core_kept, goes_twice}
 use Rattle.journal_set.proofs.Unbegun.{no_flight_told, owes_unbegun, unbegun_learned}
 use Rattle.journal_set.proofs.waiting.free_slot.Goals as goal
 use Rattle.journal_set.proofs.Told.{tells_work, tells_failing, tells_nothing}
 use Rattle.journal_set.proofs.ToldCommits.{at_through}
+use Rattle.std.proofs.Common.{◌≤◌, ◌+◌}
+use Rattle.journal_set.proofs.CallsTold.{fail_calls}
 
 pub unreachable-requires : goal.unreachable-requires
 unreachable-requires g c =
@@ -98,3 +100,25 @@ pub returns-then-lets_others_write-clause-tells : goal.returns-then-lets_others_
 returns-then-lets_others_write-clause-tells g c =
     tells_nothing c.args.pen.now (OfReserved (own_at c.args.pen.now) (λ number. TellsWork))
     (record { number = c.args.number; had = c.requires.number; is = tt })
+
+pub returns-then-lets_others_write-clause-counts : goal.returns-then-lets_others_write-clause-counts
+returns-then-lets_others_write-clause-counts g c = record {
+  once = omega arith;
+  starts = λ idle. some_commit g.D.Disk.view c.args.table.now c.args.pen.now c.args.desk.now c.requires.work
+      (no_flight_told c.args.table.now c.args.pen.now c.requires.work.holds c.args.number c.requires.number) c.requires.none idle;
+}
+
+pub returns-in-Ok-clause-counts : goal.returns-in-Ok-clause-counts
+returns-in-Ok-clause-counts g c = record {
+  once = c.in-Ok.ensures.steps.once;
+  starts = λ idle. some_commit g.D.Disk.view c.args.table.now c.args.pen.now c.args.desk.now c.requires.work
+      (no_flight_told c.args.table.now c.args.pen.now c.requires.work.holds c.args.number c.requires.number) c.requires.none idle;
+}
+
+pub returns-in-Err-clause-counts : goal.returns-in-Err-clause-counts
+returns-in-Err-clause-counts g c =
+    let same = fail_calls c.step_oldest.new.pen c.fail_unopened.new.pen c.args.number c.in-Err.faults
+    (fsync_told c.args.writing.fsync.node c.args.writing.fsync.stamp) c.fail_unopened.ensures.tells
+    in
+    let once = c.in-Err.ensures.steps.once in
+    record { once = omega (arith, same, once); starts = tt }

@@ -12,6 +12,9 @@ use Rattle.disk_box.proofs.GateOpened.{AreOpening, faults_calm, open_large, open
 use Rattle.disk_box.proofs.SlotSteps.{called_beside}
 use Rattle.disk_box.proofs.WriteSteps.{called_for}
 use Rattle.disk_box.proofs.steps.opening.open_one.Goals as goal
+use Rattle.slot_laws.specs.declared.label.Label.TheVariants as label
+use Rattle.disk_box.proofs.CountSteps.{open_counts}
+use Rattle.disk_box.proofs.StepsTold.{call_told, on_ok}
 
 pub open-result-requires-clause-large : goal.open-result-requires-clause-large
 open-result-requires-clause-large g c κs within =
@@ -147,3 +150,16 @@ returns-clause-own g c =
 pub returns-clause-tells : goal.returns-clause-tells
 returns-clause-tells g c =
     record { done = c.is_ok-done.result; cut = c.slot_turn-cut.result; opened = c.slot_turn-opened.result; mine_is = c.note.ensures.tells.mine_is }
+
+pub returns-clause-calls : goal.returns-clause-calls
+returns-clause-calls g c =
+    on_ok c.open-result.result
+    (call_told c.args.pen.now c.note.new.pen (label.Opened c.args.k c.is_ok-done.result c.slot_turn-cut.result c.slot_turn-opened.result) c.note.ensures.tells
+    refl)
+
+pub returns-clause-counts : goal.returns-clause-counts
+returns-clause-counts g c =
+    let desk = c.args.desk.now in
+    let has = kind_read desk.slots.items c.args.k kind.Sealed c.index_mut.result.now c.requires.kind c.index_mut.ensures.value in
+    open_counts g.D.Disk.view c.args.table.now c.args.pen.now desk c.args.k c.requires.work has c.note.new.pen c.open-result.new.self
+    c.is_ok-done.result c.slot_turn-cut.result c.slot_turn-opened.result c.note.ensures.tells c.open-result.result c.is_ok-done.ensures.value

@@ -6,6 +6,8 @@ use Rattle.disk_box.specs.Calls.{WritesNext}
 use Rattle.disk_box.proofs.AtSlots.{kind_read, slot_read}
 use Rattle.disk_box.proofs.WriteSteps.{called_for, place_large, place_may, place_steps}
 use Rattle.disk_box.proofs.steps.placing.place_one.Goals as goal
+use Rattle.slot_laws.specs.declared.label.Label.TheVariants as label
+use Rattle.disk_box.proofs.StepsTold.{call_told, on_ok}
 
 pub place-result-requires-clause-large : goal.place-result-requires-clause-large
 place-result-requires-clause-large g c κs within =
@@ -40,3 +42,7 @@ returns-clause-steps g c =
     c.written-record.ensures.written c.written-record.ensures.more)
     (called_for g.D.Disk.view desk c.place-result.new.disk slots c.args.k c.index.result.now c.place-result.new.self c.place-result.result refl wrote)
     wrote refl (c.written-record.ensures.written, c.is_ok-done.ensures.value)
+
+pub returns-clause-calls : goal.returns-clause-calls
+returns-clause-calls g c =
+    on_ok c.place-result.result (call_told c.args.pen.now c.note.new.pen (label.Placed c.args.k c.written-record.result c.is_ok-done.result) c.note.ensures.tells refl)

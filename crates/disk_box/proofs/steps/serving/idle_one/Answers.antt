@@ -3,6 +3,7 @@ use Rattle.std.specs.Vec.{with_item}
 use Rattle.slot_laws.specs.declared.label.Label.TheVariants as label
 use Rattle.disk_box.specs.declared.kind.Kind.TheVariants as kind
 use Rattle.disk_box.proofs.AtSlots.{kind_read}
+use Rattle.disk_box.proofs.CountSteps.{idled_served}
 use Rattle.disk_box.proofs.Served.{goes_told, idle_may, idle_now}
 use Rattle.disk_box.proofs.steps.serving.idle_one.Goals as goal
 
@@ -18,4 +19,9 @@ returns-clause-serving g c =
     (with_item desk.slots c.args.k c.close.new.self) c.close.new.self refl c.note.ensures.holds c.note.ensures.tells c.close.ensures
 
 pub returns-clause-beside : goal.returns-clause-beside
-returns-clause-beside g c = goes_told c.args.pen.now c.note.new.pen (label.Idled c.args.k) c.note.ensures.tells tt refl
+returns-clause-beside g c = goes_told c.args.pen.now c.note.new.pen (label.Idled c.args.k) c.note.ensures.tells tt refl refl
+
+pub returns-clause-told : goal.returns-clause-told
+returns-clause-told g c =
+    idled_served g.D.Disk.view c.args.table.now c.args.pen.now c.args.desk.now c.args.k c.requires.serving c.note.new.pen c.requires.kind
+    c.note.ensures.tells

@@ -9,6 +9,7 @@ use Rattle.slot_laws.specs.declared.label.Label.TheVariants as label
 use Rattle.disk_box.specs.declared.kind.Kind.TheVariants as kind
 use Rattle.disk_box.specs.Pens.{past_at}
 use Rattle.disk_box.proofs.AtSlots.{kind_read}
+use Rattle.disk_box.proofs.CountSteps.{settled_served}
 use Rattle.disk_box.proofs.Served.{goes_told}
 use Rattle.disk_box.proofs.Settled.{may_end, numbered, owner_is, owner_low, settle_may, settling_of, settle_room, settled_now, slots_many, waits_some}
 use Rattle.disk_box.proofs.steps.serving.settle_one.Goals as goal
@@ -107,4 +108,9 @@ returns-clause-serving g c =
     }) refl c.land.ensures (c.end.ensures.goes (past_at pen) k turn serving.at.fits.frame.ledger number)
 
 pub returns-clause-beside : goal.returns-clause-beside
-returns-clause-beside g c = goes_told c.args.pen.now c.note.new.pen (label.Settled c.args.k c.slot_turn-turn.result) c.note.ensures.tells tt refl
+returns-clause-beside g c = goes_told c.args.pen.now c.note.new.pen (label.Settled c.args.k c.slot_turn-turn.result) c.note.ensures.tells tt refl refl
+
+pub returns-clause-told : goal.returns-clause-told
+returns-clause-told g c =
+    settled_served g.D.Disk.view c.args.table.now c.args.pen.now c.args.desk.now c.args.k c.requires.serving c.note.new.pen c.slot_turn-turn.result c.requires.kind
+    c.note.ensures.tells

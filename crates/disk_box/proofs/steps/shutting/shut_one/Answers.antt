@@ -4,6 +4,8 @@ use Rattle.disk_box.specs.declared.kind.Kind.TheVariants as kind
 use Rattle.disk_box.proofs.AtSlots.{kind_read}
 use Rattle.disk_box.proofs.WriteSteps.{called_for, shut_large, shut_may, shut_steps}
 use Rattle.disk_box.proofs.steps.shutting.shut_one.Goals as goal
+use Rattle.slot_laws.specs.declared.label.Label.TheVariants as label
+use Rattle.disk_box.proofs.StepsTold.{call_told, on_ok}
 
 pub shut-result-requires-clause-large : goal.shut-result-requires-clause-large
 shut-result-requires-clause-large g c κs within =
@@ -26,3 +28,7 @@ returns-clause-steps g c =
     (called_for g.D.Disk.view desk c.shut-result.new.disk slots c.args.k c.index_mut.result.now c.shut-result.new.self c.shut-result.result refl
     c.shut-result.ensures)
     c.shut-result.ensures refl c.is_ok-done.ensures.value
+
+pub returns-clause-calls : goal.returns-clause-calls
+returns-clause-calls g c =
+    on_ok c.shut-result.result (call_told c.args.pen.now c.note.new.pen (label.Shut c.args.k c.is_ok-done.result) c.note.ensures.tells refl)

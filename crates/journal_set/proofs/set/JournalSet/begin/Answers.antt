@@ -10,6 +10,10 @@ use Rattle.journal_set.proofs.Turned.{core_kept, goes_twice}
 use Rattle.journal_set.proofs.set.JournalSet.begin.Goals as goal
 use Rattle.journal_set.proofs.Told.{calls_more, call_through}
 use Rattle.journal_set.proofs.ToldCalls.{begun_told}
+use Rattle.journal_one.specs.Packed.{Contents}
+use Rattle.disk_box.specs.Pens.{calls_at}
+use Rattle.journal_set.specs.Counting.{BeginsAlone, BeginsScheduled}
+use Rattle.journal_set.proofs.Alone.{begun_alone, found_first, found_more}
 
 pub begin_turn-requires-clause-room : goal.begin_turn-requires-clause-room
 begin_turn-requires-clause-room g c κs within = subst (λ n. 0 < n) (sym c.loop.invariant.room) c.requires.room
@@ -36,6 +40,7 @@ loop-preserved g c =
     (fsync_told c.loop.writing.fsync.node c.loop.writing.fsync.stamp) (written_in c.loop.writing) number (Ok b)))) c.loop.pen c.begin_turn.new.pen)
     c.in-Ok-Waits.field-0-is c.in-Ok-Waits.ensures.tells
     in
+    let counts = c.in-Ok-Waits.ensures.counts in
     record {
       outside = c.begin_turn.ensures.outside;
       goes = goes_twice c.args.pen.now c.loop.pen c.begin_turn.new.pen was.goes c.begin_turn.ensures.goes;
@@ -45,6 +50,9 @@ loop-preserved g c =
       writing = (λ i. record (it.same i) { patience = c.args.writing.patience }) ∙ was.writing;
       tells = calls_more c.args.pen.now c.loop.pen c.begin_turn.new.pen was.goes TellsWork was.tells
           (call_through c.loop.pen c.begin_turn.new.pen (OfReserved (own_at c.loop.pen) (λ number. TellsWork)) TellsWork (λ one is. is.is) told);
+      found = found_more c.args.self.now c.args.pen.now c.requires.outside c.loop.pen c.begin_turn.new.pen was.goes was.outside was.found counts.turn
+          counts.took (λ idle. subst (λ (b : Beginning). BeginsAlone c.loop.writing.packed (calls_at c.loop.pen) c.begin_turn.new.pen b)
+          c.in-Ok-Waits.field-0-is (c.in-Ok-Waits.ensures.counts.starts idle));
     }
 
 pub returns-in-Ok-Begun-clause-comes : goal.returns-in-Ok-Begun-clause-comes
@@ -79,3 +87,13 @@ returns-in-Err-clause-tells g c =
     let was = c.loop.invariant in
     begun_told c.args.writing c.loop.writing c.args.pen.now c.loop.pen c.begin_turn.new.pen was.own was.goes was.writing was.tells (Err c.in-Err.fault)
     c.in-Err.ensures.tells
+
+pub returns-in-Ok-Begun-clause-counts : goal.returns-in-Ok-Begun-clause-counts
+returns-in-Ok-Begun-clause-counts g c =
+    let was = c.loop.invariant in
+    let counts = c.in-Ok-Begun.ensures.counts in
+    let packed = ap (λ (w : Writing). w.packed) was.writing in
+    subst (λ (p : Contents). BeginsScheduled p c.args.pen.now c.begin_turn.new.pen c.in-Ok-Begun.flight) packed
+    (begun_alone c.args.self.now c.args.pen.now c.requires.outside c.loop.pen c.begin_turn.new.pen was.goes was.outside was.found counts.turn counts.took
+    c.loop.writing.packed c.in-Ok-Begun.flight (λ idle. subst (λ (b : Beginning). BeginsAlone c.loop.writing.packed (calls_at c.loop.pen)
+    c.begin_turn.new.pen b) c.in-Ok-Begun.field-0-is (c.in-Ok-Begun.ensures.counts.starts idle)))

@@ -3,6 +3,7 @@ use Rattle.disk_box.specs.Pens.{IsOutside, PenGoes, own_at}
 use Rattle.journal_set.specs.Grants.{grant_at}
 use Rattle.journal_set.specs.Telling.{AreTurns, TellsCall, TellsWork}
 use Rattle.journal_set.proofs.set.JournalSet.begin.Given as goal
+use Rattle.journal_set.proofs.Alone.{HasFoundSome}
 
 abbrev pub invariant-loop : goal.invariant-loop
 invariant-loop g l = record {
@@ -13,4 +14,5 @@ invariant-loop g l = record {
   grant : grant_at l.pen ≡ grant_at l.fn.pen;
   writing : record l.writing { patience = l.fn.writing.patience } ≡ l.fn.writing;
   tells : TellsCall (AreTurns TellsWork) l.fn.pen l.pen;
+  found : HasFoundSome l.self l.fn.pen l.pen;
 }

@@ -12,6 +12,10 @@ use Rattle.journal_set.proofs.Parts.{grant_more}
 use Rattle.journal_set.proofs.Turned.{core_kept, goes_twice}
 use Rattle.journal_set.proofs.set.JournalSet.begin_turn.Goals as goal
 use Rattle.journal_set.proofs.Told.{tells_around}
+use Rattle.slot_laws.specs.Telling.{labels_in}
+use Rattle.journal_set.proofs.AmidTurns.{turn_amid}
+use Rattle.journal_set.proofs.TiedCommits.{beginnings_tell}
+use Rattle.journal_set.proofs.TurnAlone.{around, begins_around}
 
 pub begin_at-result-requires-clause-grant : goal.begin_at-result-requires-clause-grant
 begin_at-result-requires-clause-grant g c κs within =
@@ -56,3 +60,18 @@ returns-clause-tells g c =
     (tells_around pen at c.begin_at-result.new.pen c.leave.new.pen c.enter-desk.ensures.goes c.begin_at-result.ensures.goes c.enter-desk.ensures.mine
     c.leave.ensures.mine (OfReserved (own_at at) (λ number. begin_labels at.view.core flush written number c.begin_at-result.result))
     c.begin_at-result.ensures.tells)
+
+pub returns-clause-counts : goal.returns-clause-counts
+returns-clause-counts g c =
+    let pen = c.args.pen.now in
+    let at = c.enter-desk.new.pen in
+    let done = c.begin_at-result.new.pen in
+    let flush : Flush = fsync_told c.args.writing.fsync.node c.args.writing.fsync.stamp in
+    let told = c.begin_at-result.ensures.tells in
+    let tells = beginnings_tell (λ n. flush.stamp) at.view.core told.is.number flush (written_in c.args.writing) (own_at at) c.begin_at-result.result told.one
+    (record { had = told.is.had; named = Rattle.std.proofs.Common.refl }) told.is.is
+    in
+    begins_around pen at done c.leave.new.pen (around c.args.self.now pen at done c.leave.new.pen c.enter-desk.ensures.takes c.enter-desk.ensures.goes
+    c.enter-desk.ensures.at.holds c.begin_at-result.ensures.goes c.begin_at-result.ensures.at.holds (labels_in told.one) told.mine_is
+    (turn_amid at.view.core tells.number tells.flush told.one tells.is) c.leave.ensures.goes c.enter-desk.ensures.mine c.leave.ensures.seen
+    c.leave.ensures.mine) c.args.writing.packed c.begin_at-result.result c.begin_at-result.ensures.counts

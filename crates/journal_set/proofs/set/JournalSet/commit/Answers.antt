@@ -10,6 +10,11 @@ use Rattle.journal_set.proofs.Turned.{core_kept, goes_twice}
 use Rattle.journal_set.proofs.set.JournalSet.commit.Goals as goal
 use Rattle.journal_set.proofs.ToldCommits.{only_of}
 use Rattle.journal_set.proofs.ToldCalls.{unbegun_told, commit_told}
+use Rattle.journal_set.proofs.Alone.{commit_counts}
+use Rattle.journal_set.specs.Counting.{MakesScheduled}
+use Rattle.slot_laws.specs.Telling.{events_in}
+use Rattle.journal_one.specs.Packed.{Contents}
+use Rattle.std.proofs.Common.{◌++◌, IfOk}
 
 pub give_back-requires-clause-grant : goal.give_back-requires-clause-grant
 give_back-requires-clause-grant g c κs within = c.requires.grant ∙ ap Some (sym c.in-Err.ensures.back)
@@ -68,3 +73,13 @@ pub returns-in-Ok-begin-clause-tells : goal.returns-in-Ok-begin-clause-tells
 returns-in-Ok-begin-clause-tells g c =
     commit_told c.args.tx c.args.grant c.args.fsync c.in-Ok.writing c.in-Ok.ensures.ok c.args.pen.now c.begin.new.pen c.land.new.pen c.begin.ensures.goes
     c.in-Ok-begin.flight c.in-Ok-begin.ensures.comes c.land.result c.in-Ok-begin.ensures.tells c.land.ensures.tells
+
+pub returns-in-Ok-begin-clause-counts : goal.returns-in-Ok-begin-clause-counts
+returns-in-Ok-begin-clause-counts g c =
+    let pen = c.args.pen.now in
+    let told = c.begin.ensures.tells in
+    let turns = told.are.is in
+    subst (λ (p : Contents). IfOk c.land.result (λ ack. MakesScheduled p pen c.land.new.pen)) c.in-Ok.ensures.ok.packed_is
+    (commit_counts c.args.self.now pen c.begin.new.pen c.land.new.pen c.requires.outside c.begin.ensures.outside c.begin.ensures.goes c.land.ensures.goes
+    turns.way turns.last (told.mine_is ∙ ap (λ l. pen.view.mine ++ events_in pen.view.core l) turns.turns_are) c.in-Ok.writing.packed
+    c.in-Ok-begin.flight c.in-Ok-begin.ensures.counts c.land.result c.land.ensures.counts)

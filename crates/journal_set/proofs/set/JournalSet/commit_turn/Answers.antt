@@ -5,6 +5,15 @@ use Rattle.journal_set.proofs.BegunAround.{cause_err}
 use Rattle.journal_set.proofs.Turned.{core_kept, goes_twice, turn_around}
 use Rattle.journal_set.proofs.set.JournalSet.commit_turn.Goals as goal
 use Rattle.journal_set.proofs.Told.{tells_around}
+use Rattle.std.proofs.Common.{refl}
+use Rattle.slot_laws.specs.Telling.{labels_in}
+use Rattle.journal_set.proofs.AmidTurns.{turn_amid}
+use Rattle.journal_set.proofs.TiedCommits.{flights_tell}
+use Rattle.journal_set.proofs.TurnAlone.{around, works_around}
+use Rattle.journal_set.specs.Flying.{flight_of}
+use Rattle.std.proofs.Common.{◌∙◌, ap}
+use Rattle.slot_laws.specs.Labels.{OwnTold}
+use Rattle.disk_box.specs.Pens.{own_at}
 
 pub turn_at-result-requires-clause-under : goal.turn_at-result-requires-clause-under
 turn_at-result-requires-clause-under g c κs within =
@@ -37,3 +46,22 @@ returns-clause-tells g c =
     (core_kept pen at c.enter-desk.ensures.goes)
     (tells_around pen at c.turn_at-result.new.pen c.leave.new.pen c.enter-desk.ensures.goes c.turn_at-result.ensures.goes c.enter-desk.ensures.mine
     c.leave.ensures.mine (flight_labels at.view.core flight.commit (flush_of flight) c.turn_at-result.result) c.turn_at-result.ensures.tells)
+
+pub returns-clause-counts : goal.returns-clause-counts
+returns-clause-counts g c =
+    let pen = c.args.pen.now in
+    let at = c.enter-desk.new.pen in
+    let done = c.turn_at-result.new.pen in
+    let flight = c.args.flight.now in
+    let flush = flush_of flight in
+    let told = c.turn_at-result.ensures.tells in
+    let under = c.requires.under in
+    let tells = flights_tell (λ n. flush.stamp) at.view.core flight.commit flush (own_at at) c.turn_at-result.result told.one (record {
+      flight = flight_of flight under.0;
+      flies = ap (λ (o : OwnTold). o.flight) c.enter-desk.ensures.own ∙ under.1.flies;
+      flush_is = refl;
+    }) refl told.is in
+    works_around pen at done c.leave.new.pen (around c.args.self.now pen at done c.leave.new.pen c.enter-desk.ensures.takes c.enter-desk.ensures.goes
+    c.enter-desk.ensures.at.holds c.turn_at-result.ensures.goes c.turn_at-result.ensures.at.holds (labels_in told.one) told.mine_is
+    (turn_amid at.view.core tells.number tells.flush told.one tells.is) c.leave.ensures.goes c.enter-desk.ensures.mine c.leave.ensures.seen
+    c.leave.ensures.mine) flight.slot c.turn_at-result.result c.turn_at-result.ensures.counts

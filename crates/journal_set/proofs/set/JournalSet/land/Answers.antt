@@ -8,6 +8,12 @@ use Rattle.journal_set.proofs.Turned.{core_kept, ends_so, goes_on_both, goes_twi
 use Rattle.journal_set.proofs.set.JournalSet.land.Goals as goal
 use Rattle.journal_set.proofs.Told.{calls_more, calls_last}
 use Rattle.journal_set.proofs.ToldCalls.{flight_told}
+use Rattle.std.proofs.Common.{◌≡◌, ap}
+use Rattle.slot_laws.specs.Labels.{SlotFlight}
+use Rattle.disk_box.specs.Counting.{CountsFrom, due_at}
+use Rattle.disk_box.specs.Pens.{calls_at, past_at}
+use Rattle.journal_set.specs.Counting.{LeavesDue, past_behind}
+use Rattle.journal_set.proofs.Alone.{down_first, down_more, lands_so}
 
 pub commit_turn-requires-clause-room : goal.commit_turn-requires-clause-room
 commit_turn-requires-clause-room g c κs within = subst (λ n. 0 < n) (sym c.loop.invariant.room) c.requires.room
@@ -35,6 +41,9 @@ loop-preserved-in-Ok-Filled g c =
           (flight_told c.args.flight c.loop.flight c.args.pen.now c.loop.pen c.commit_turn.new.pen was.goes was.flight (Ok progress.Filled)
           (subst (λ (p : Progress). TellsCall (IsOneTurn (flight_labels c.loop.pen.view.core c.loop.flight.commit (flush_of c.loop.flight) (Ok p)))
           c.loop.pen c.commit_turn.new.pen) c.in-Ok-Filled.field-0-is c.in-Ok-Filled.ensures.tells));
+      down = down_more c.args.flight.slot c.args.pen.now c.loop.pen c.commit_turn.new.pen was.goes c.commit_turn.ensures.goes was.down
+          c.in-Ok-Filled.ensures.counts.turn (subst (λ k. CountsFrom k (past_behind c.loop.pen c.in-Ok-Filled.ensures.counts.turn.front) (calls_at c.loop.pen)
+          c.commit_turn.new.pen) (ap (λ (f : SlotFlight). f.slot) (was.flight false)) c.in-Ok-Filled.ensures.counts.down.0);
     }
 
 pub loop-preserved : goal.loop-preserved
@@ -54,6 +63,9 @@ loop-preserved g c =
           (flight_told c.args.flight c.loop.flight c.args.pen.now c.loop.pen c.commit_turn.new.pen was.goes was.flight (Ok progress.Goes)
           (subst (λ (p : Progress). TellsCall (IsOneTurn (flight_labels c.loop.pen.view.core c.loop.flight.commit (flush_of c.loop.flight) (Ok p)))
           c.loop.pen c.commit_turn.new.pen) c.in-Ok-Goes.field-0-is c.in-Ok-Goes.ensures.tells));
+      down = down_more c.args.flight.slot c.args.pen.now c.loop.pen c.commit_turn.new.pen was.goes c.commit_turn.ensures.goes was.down
+          c.in-Ok-Goes.ensures.counts.turn (subst (λ k. CountsFrom k (past_behind c.loop.pen c.in-Ok-Goes.ensures.counts.turn.front) (calls_at c.loop.pen)
+          c.commit_turn.new.pen) (ap (λ (f : SlotFlight). f.slot) (was.flight false)) c.in-Ok-Goes.ensures.counts.down.0);
     }
 
 pub returns-in-Ok-Durable-clause-comes : goal.returns-in-Ok-Durable-clause-comes
@@ -95,3 +107,15 @@ returns-in-Err-clause-tells g c =
     (TellsEnded c.args.pen.now.view.core c.args.flight.commit (flush_of c.args.flight) c.in-Err.fault) was.tells
     (flight_told c.args.flight c.loop.flight c.args.pen.now c.loop.pen c.commit_turn.new.pen was.goes was.flight (Err c.in-Err.fault)
     c.in-Err.ensures.tells)
+
+pub returns-in-Ok-Durable-clause-counts : goal.returns-in-Ok-Durable-clause-counts
+returns-in-Ok-Durable-clause-counts g c =
+    let was = c.loop.invariant in
+    let counts = c.in-Ok-Durable.ensures.counts in
+    let slot = ap (λ (f : SlotFlight). f.slot) (was.flight false) in
+    let after = c.commit_turn.new.pen in
+    lands_so c.args.flight.slot c.args.pen.now after
+    (down_more c.args.flight.slot c.args.pen.now c.loop.pen after was.goes c.commit_turn.ensures.goes was.down counts.turn
+    (subst (λ k. CountsFrom k (past_behind c.loop.pen counts.turn.front) (calls_at c.loop.pen) after) slot counts.down.0))
+    (subst (λ k. due_at (past_at after) k ≡ 0) slot
+    (subst (λ (p : Progress). LeavesDue p (due_at (past_at after) c.loop.flight.slot)) c.in-Ok-Durable.field-0-is counts.down.1))
