@@ -84,23 +84,24 @@ module _ {D : Type 0} (k : ℕ) (before : PenHand D) where
   pub lands_so : (after : PenHand D) → GoesDownAlone after → due_at (past_at after) k ≡ 0 → LandsScheduled k before after
   lands_so after down none back same own alone = let counts = (down back same own alone).counts in omega (arith, counts, none)
 
+-- where a core has had a turn, its first one has found some slot with a commit
+abbrev pub HasFoundSome : {D : Type 0} → PenHand D → PenHand D → Type 0
+HasFoundSome before pen = (alone : GoesAlone before pen) → 0 < length alone.back → AllIdle (past_behind before alone.front).slots → ⊥
+
+-- it has had none yet
+pub found_first : {D : Type 0} (before : PenHand D) → HasFoundSome before before
+found_first before alone some idle =
+    let whole : before.view.seen ++ [] ≡ before.view.seen ++ (alone.front ++ alone.back) =
+    append-nil before.view.seen ∙ (alone.seen_is ∙ append_assoc before.view.seen alone.front alone.back)
+    in
+    let none = ap length (append_cancel_left before.view.seen [] (alone.front ++ alone.back) whole) in
+    let both = length-append alone.front alone.back in
+    absurd (omega (arith, none, both, some))
+
 -- A commit that waits for a slot.
 module _ {D : Type 0} (t : TableState (BoxKey D)) (before : PenHand D) (outside : IsOutside t before) where
-  -- where a core has had a turn, its first one has found some slot with a commit
-  abbrev pub HasFoundSome : PenHand D → Type 0
-  HasFoundSome pen = (alone : GoesAlone before pen) → 0 < length alone.back → AllIdle (past_behind before alone.front).slots → ⊥
-
-  pub found_first : HasFoundSome before
-  found_first alone some idle =
-      let whole : before.view.seen ++ [] ≡ before.view.seen ++ (alone.front ++ alone.back) =
-      append-nil before.view.seen ∙ (alone.seen_is ∙ append_assoc before.view.seen alone.front alone.back)
-      in
-      let none = ap length (append_cancel_left before.view.seen [] (alone.front ++ alone.back) whole) in
-      let both = length-append alone.front alone.back in
-      absurd (omega (arith, none, both, some))
-
   -- A turn more.
-  module _ (mid after : PenHand D) (first : PenGoes before mid) (again : IsOutside t mid) (found : HasFoundSome mid) (turn : GoesAlone mid after)
+  module _ (mid after : PenHand D) (first : PenGoes before mid) (again : IsOutside t mid) (found : HasFoundSome before mid) (turn : GoesAlone mid after)
       (took : 0 < length turn.back) where
     abbrev mine : List (Event Label) → List (Event Label)
     mine = entries_by event_core before.view.core
@@ -148,26 +149,27 @@ module _ {D : Type 0} (t : TableState (BoxKey D)) (before : PenHand D) (outside 
 
       -- where it had one before
       module _ (had : mine some ≡ [] → ⊥) where
-        split : (begins : BeginsWith alone.front some) × (alone.back ≡ begins.more ++ (turn.front ++ turn.back))
-        split = begins_with (is_by event_core before.view.core) alone.front alone.back some (turn.front ++ turn.back)
+        pieces : (begins : BeginsWith alone.front some) × (alone.back ≡ begins.more ++ (turn.front ++ turn.back))
+        pieces = begins_with (is_by event_core before.view.core) alone.front alone.back some (turn.front ++ turn.back)
             (parts ∙ append_assoc some turn.front turn.back) alone.others had
 
         before_then : GoesAlone before mid
         before_then = record {
           front = alone.front;
-          back = split.0.more;
+          back = pieces.0.more;
           seen_is = sym first.seen.1
-              ∙ (ap (λ l. before.view.seen ++ l) split.0.is ∙ sym (append_assoc before.view.seen alone.front split.0.more));
+              ∙ (ap (λ l. before.view.seen ++ l) pieces.0.is ∙ sym (append_assoc before.view.seen alone.front pieces.0.more));
           others = alone.others;
-          own = (parts_pass (is_by event_core before.view.core) split.0.more (turn.front ++ turn.back) (subst (λ l. mine l ≡ l) split.1 alone.own)).0;
+          own = (parts_pass (is_by event_core before.view.core) pieces.0.more (turn.front ++ turn.back) (subst (λ l. mine l ≡ l) pieces.1 alone.own)).0;
         }
 
         not_idle : AllIdle (past_behind before alone.front).slots → ⊥
+        unfolding before_then pieces
         not_idle = found before_then
-            (more_passes (is_by event_core before.view.core) alone.front some split.0 alone.others had)
+            (more_passes (is_by event_core before.view.core) alone.front some pieces.0 alone.others had)
 
     -- it waits still
-    pub found_more : (AllIdle (past_behind mid turn.front).slots → ⊥) → HasFoundSome after
+    pub found_more : (AllIdle (past_behind mid turn.front).slots → ⊥) → HasFoundSome before after
     found_more waits alone more idle = elim (empty_or (mine some)) [
       | inl none ↦ waits (subst (λ (p : BoxPast). AllIdle p.slots) (past_is alone none) idle)
       | inr had ↦ not_idle alone had idle
@@ -195,14 +197,14 @@ module _ {D : Type 0} (contents : Contents) (flight : Flight) (before mid after 
       ∙ (sym alone.seen_is
       ∙ (sym second.seen.1 ∙ (ap (λ l. l ++ second.seen.0) (sym first.seen.1) ∙ append_assoc before.view.seen first.seen.0 second.seen.0))))
       in
-      let split = begins_with (is_by event_core before.view.core) alone.front alone.back first.seen.0 second.seen.0 parts alone.others had in
-      let own = parts_pass (is_by event_core before.view.core) split.0.more second.seen.0
-      (subst (λ l. entries_by event_core before.view.core l ≡ l) split.1 alone.own)
+      let pieces = begins_with (is_by event_core before.view.core) alone.front alone.back first.seen.0 second.seen.0 parts alone.others had in
+      let own = parts_pass (is_by event_core before.view.core) pieces.0.more second.seen.0
+      (subst (λ l. entries_by event_core before.view.core l ≡ l) pieces.1 alone.own)
       in
       let begun = begins (record {
         front = alone.front;
-        back = split.0.more;
-        seen_is = sym first.seen.1 ∙ (ap (λ l. before.view.seen ++ l) split.0.is ∙ sym (append_assoc before.view.seen alone.front split.0.more));
+        back = pieces.0.more;
+        seen_is = sym first.seen.1 ∙ (ap (λ l. before.view.seen ++ l) pieces.0.is ∙ sym (append_assoc before.view.seen alone.front pieces.0.more));
         others = alone.others;
         own = own.0;
       }) idle in

@@ -72,13 +72,13 @@ all_work (fact ∷ facts) work = (work_amid fact work.0, all_work facts work.1)
 pub turn_amid : (core number : ℕ) (flush : Flush) (one : BoxTurn) → IsTurnFor core number flush one → AreAmid (labels_in one)
 turn_amid core number flush (turn_works facts) is = all_work facts is
 turn_amid core number flush (turn_refuses turn) is = (tt, tt)
-turn_amid core number flush (turn_reserves own seen grant turn) is = (tt, tt, tt)
-turn_amid core number flush (turn_returns own turn) is = (tt, tt, tt)
-turn_amid core number flush (turn_empties own seen cut opened durable) is = (tt, tt, tt)
+turn_amid core number flush (turn_reserves own seen grant turn) is = (tt, (tt, tt))
+turn_amid core number flush (turn_returns own turn) is = (tt, (tt, tt))
+turn_amid core number flush (turn_empties own seen cut opened durable) is = (tt, (tt, tt))
 turn_amid core number flush (turn_begins filling own node stamp blocks inodes) is = (tt, tt)
 turn_amid core number flush (turn_opens slot done cut opened) is = (tt, tt)
 turn_amid core number flush (turn_lands turn) is = (tt, tt)
-turn_amid core number flush (turn_fails facts cut fail) is = works_amid facts (label.Noted cut ∷ label.Noted fail ∷ []) is.0 (tt, tt, tt)
+turn_amid core number flush (turn_fails facts cut fail) is = works_amid facts (label.Noted cut ∷ label.Noted fail ∷ []) is.0 (tt, (tt, tt))
 turn_amid core number flush (turn_fails_begun facts fail) is = flights_amid core number flush facts (label.Noted fail ∷ []) is.0 (tt, tt)
 
 -- what is told from where a core has the box on is its own, where its own labels are such

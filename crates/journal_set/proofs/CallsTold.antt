@@ -1,6 +1,6 @@
 -- Of how many device calls a core tells where it begins a commit, learns that it is durable, or ends it.
 use Rattle.std.specs.Prelude.{slice_get}
-use Rattle.std.proofs.Common.{◌≡◌, ◌≢◌, ◌+◌, ◌≤◌, ◌∷◌, ◌++◌, ◌∙◌, ℕ, Bool, true, false, cond, List, [], length, Option, Some, None, inl, inr, Result, Ok, Err, refl, sym, ap, subst, arith}
+use Rattle.std.proofs.Common.{◌≡◌, ◌≢◌, ◌⊎◌, ◌+◌, ◌≤◌, ◌∷◌, ◌++◌, ◌∙◌, ℕ, Bool, true, false, cond, List, [], length, Option, Some, None, inl, inr, Result, Ok, Err, refl, sym, ap, subst, arith}
 use Rattle.sfs_base.proofs.BasicOptions.{none_some, some_same}
 use Rattle.sfs_dev.specs.Disk.{View}
 use Rattle.journal_one.specs.Job.{Job, Place}
@@ -133,3 +133,16 @@ pub leaves_none : (did : Progress) → NotLanded did → (due : ℕ) → LeavesD
 leaves_none progress.Goes not due = tt
 leaves_none progress.Filled not due = tt
 leaves_none (progress.Durable ack) not due = absurd not
+
+-- a slot has one phase
+same_kind : (slots : List Slot) (k : ℕ) (one other : Kind) → HasKind slots k one → HasKind slots k other → one ≡ other
+same_kind slots k one other first second =
+    sym first.kind_is ∙ (ap (λ (s : Slot). kind_of s.phase) (some_same (sym first.there ∙ second.there)) ∙ second.kind_is)
+
+-- one that is being filled, or was, and is not being filled was filled
+pub was_filled : (slots : List Slot) (k : ℕ) (what : Kind) → HasKind slots k what → what ≢ kind.Filling
+    → HasKind slots k kind.Filling ⊎ HasKind slots k kind.Filled → HasKind slots k kind.Filled
+was_filled slots k what has not either = elim either [
+  | inl filling ↦ absurd (not (same_kind slots k what kind.Filling has filling))
+  | inr filled ↦ filled
+]

@@ -4,6 +4,11 @@ use Rattle.std.proofs.Common.{◌≡◌, ◌+◌, ◌<◌, ◌≤◌, ◌∷◌,
 use Rattle.sfs_base.proofs.BasicTruth.{true_not_false}
 use Rattle.merge_laws.proofs.Lists.{heads_are}
 
+-- A list begins with a front, and goes on with this.
+pub record BeginsWith {X : Type 0} (front whole : List X) : Type 0 where
+  pub more : List X
+  pub is : whole ≡ front ++ more
+
 module _ {X : Type 0} (p : X → Bool) where
   few_by : (b : Bool) (x : X) (xs : List X) → length (filter p xs) ≤ length xs → length (cond b (x ∷ filter p xs) (filter p xs)) ≤ length (x ∷ xs)
   few_by true x xs few = omega (arith, few)
@@ -44,26 +49,21 @@ module _ {X : Type 0} (p : X → Bool) where
   -- a list is cut in one place alone into a front of which none passes and a rest of which all do
   pub same_front : (front back other rest : List X) → front ++ back ≡ other ++ rest → filter p front ≡ [] → filter p back ≡ back
       → filter p other ≡ [] → filter p rest ≡ rest → front ≡ other
-  same_front [] back [] rest same none all no every = refl
-  same_front [] [] (y ∷ other) rest same none all no every = absurd (cc same)
-  same_front [] (x ∷ back) (y ∷ other) rest same none all no every =
+  same_front [] back [] rest same none all clear every = refl
+  same_front [] [] (y ∷ other) rest same none all clear every = absurd (cc same)
+  same_front [] (x ∷ back) (y ∷ other) rest same none all clear every =
       let heads = heads_are x y back (other ++ rest) same in
-      absurd (true_not_false (sym (all_pass x back all).0 ∙ (ap p heads.0 ∙ (none_passes y other no).0)))
-  same_front (x ∷ front) back [] [] same none all no every = absurd (cc same)
-  same_front (x ∷ front) back [] (y ∷ rest) same none all no every =
+      absurd (true_not_false (sym (all_pass x back all).0 ∙ (ap p heads.0 ∙ (none_passes y other clear).0)))
+  same_front (x ∷ front) back [] [] same none all clear every = absurd (cc same)
+  same_front (x ∷ front) back [] (y ∷ rest) same none all clear every =
       let heads = heads_are x y (front ++ back) rest same in
       absurd (true_not_false (sym (all_pass y rest every).0 ∙ (ap p (sym heads.0) ∙ (none_passes x front none).0)))
-  same_front (x ∷ front) back (y ∷ other) rest same none all no every =
+  same_front (x ∷ front) back (y ∷ other) rest same none all clear every =
       let heads = heads_are x y (front ++ back) (other ++ rest) same in
-      let tail = same_front front back other rest heads.1 (none_passes x front none).1 all (none_passes y other no).1 every in
+      let tail = same_front front back other rest heads.1 (none_passes x front none).1 all (none_passes y other clear).1 every in
       ap (λ z. z ∷ front) heads.0 ∙ ap (λ l. y ∷ l) tail
 
-  -- A list begins with a front of which none passes, and goes on with this.
-  pub record BeginsWith (front whole : List X) : Type 0 where
-    pub more : List X
-    pub is : whole ≡ front ++ more
-
-  -- so does the first of two lists in which something passes
+  -- so does the first of two lists in which something passes, with a front of which none does
   pub begins_with : (front back first second : List X) → front ++ back ≡ first ++ second → filter p front ≡ [] → (filter p first ≡ [] → ⊥)
       → (begins : BeginsWith front first) × (back ≡ begins.more ++ second)
   begins_with [] back first second same none some = (record { more = first; is = refl }, same)
@@ -72,7 +72,7 @@ module _ {X : Type 0} (p : X → Bool) where
       let heads = heads_are x y (front ++ back) (first ++ second) same in
       let not = none_passes x front none in
       let rest = begins_with front back first second heads.1 not.1
-      (λ no. some (ap (λ b. cond b (y ∷ filter p first) (filter p first)) (ap p (sym heads.0) ∙ not.0) ∙ no))
+      (λ clear. some (ap (λ b. cond b (y ∷ filter p first) (filter p first)) (ap p (sym heads.0) ∙ not.0) ∙ clear))
       in
       (record { more = rest.0.more; is = ap (λ z. z ∷ first) (sym heads.0) ∙ ap (λ l. x ∷ l) rest.0.is }, rest.1)
 

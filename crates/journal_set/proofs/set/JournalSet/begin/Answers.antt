@@ -1,4 +1,4 @@
-use Rattle.std.proofs.Common.{◌<◌, ◌∙◌, Ok, Some, sym, ap, subst, Err}
+use Rattle.std.proofs.Common.{◌<◌, ◌∙◌, Ok, Some, refl, sym, ap, subst, Err}
 use Rattle.slot_laws.specs.Labels.{OwnTold, fsync_told}
 use Rattle.disk_box.specs.Pens.{own_at}
 use Rattle.journal_set.specs.declared.beginning.Writing.{Writing}
@@ -8,7 +8,8 @@ use Rattle.journal_set.specs.Telling.{TellsCall, IsOneTurn, OfReserved, TellsWor
 use Rattle.journal_set.proofs.BegunAround.{begins_still, fails_still, written_still}
 use Rattle.journal_set.proofs.Turned.{core_kept, goes_twice}
 use Rattle.journal_set.proofs.set.JournalSet.begin.Goals as goal
-use Rattle.journal_set.proofs.Told.{calls_more, call_through}
+use Rattle.journal_set.proofs.Told.{calls_more, calls_none, call_through}
+use Rattle.disk_box.proofs.Served.{goes_still}
 use Rattle.journal_set.proofs.ToldCalls.{begun_told}
 use Rattle.journal_one.specs.Packed.{Contents}
 use Rattle.disk_box.specs.Pens.{calls_at}
@@ -97,3 +98,17 @@ returns-in-Ok-Begun-clause-counts g c =
     (begun_alone c.args.self.now c.args.pen.now c.requires.outside c.loop.pen c.begin_turn.new.pen was.goes was.outside was.found counts.turn counts.took
     c.loop.writing.packed c.in-Ok-Begun.flight (λ idle. subst (λ (b : Beginning). BeginsAlone c.loop.writing.packed (calls_at c.loop.pen)
     c.begin_turn.new.pen b) c.in-Ok-Begun.field-0-is (c.in-Ok-Begun.ensures.counts.starts idle)))
+
+pub loop-init : goal.loop-init
+loop-init g c =
+    let pen = c.args.pen.now in
+    record {
+      outside = c.requires.outside;
+      goes = (goes_still pen).goes;
+      room = refl;
+      own = refl;
+      grant = refl;
+      writing = refl;
+      tells = calls_none pen TellsWork;
+      found = found_first pen;
+    }

@@ -14,5 +14,5 @@ invariant-loop g l = record {
   grant : grant_at l.pen ≡ grant_at l.fn.pen;
   writing : record l.writing { patience = l.fn.writing.patience } ≡ l.fn.writing;
   tells : TellsCall (AreTurns TellsWork) l.fn.pen l.pen;
-  found : HasFoundSome l.self l.fn.pen l.pen;
+  found : HasFoundSome l.fn.pen l.pen;
 }

@@ -71,7 +71,7 @@ returns-clause-counts g c =
     let tells = beginnings_tell (λ n. flush.stamp) at.view.core told.is.number flush (written_in c.args.writing) (own_at at) c.begin_at-result.result told.one
     (record { had = told.is.had; named = Rattle.std.proofs.Common.refl }) told.is.is
     in
-    begins_around pen at done c.leave.new.pen (around c.args.self.now pen at done c.leave.new.pen c.enter-desk.ensures.takes c.enter-desk.ensures.goes
+    begins_around pen at done c.leave.new.pen (around c.self.inside.table pen at done c.leave.new.pen c.enter-desk.ensures.takes c.enter-desk.ensures.goes
     c.enter-desk.ensures.at.holds c.begin_at-result.ensures.goes c.begin_at-result.ensures.at.holds (labels_in told.one) told.mine_is
     (turn_amid at.view.core tells.number tells.flush told.one tells.is) c.leave.ensures.goes c.enter-desk.ensures.mine c.leave.ensures.seen
     c.leave.ensures.mine) c.args.writing.packed c.begin_at-result.result c.begin_at-result.ensures.counts

@@ -61,7 +61,7 @@ returns-clause-counts g c =
       flies = ap (λ (o : OwnTold). o.flight) c.enter-desk.ensures.own ∙ under.1.flies;
       flush_is = refl;
     }) refl told.is in
-    works_around pen at done c.leave.new.pen (around c.args.self.now pen at done c.leave.new.pen c.enter-desk.ensures.takes c.enter-desk.ensures.goes
+    works_around pen at done c.leave.new.pen (around c.self.inside.table pen at done c.leave.new.pen c.enter-desk.ensures.takes c.enter-desk.ensures.goes
     c.enter-desk.ensures.at.holds c.turn_at-result.ensures.goes c.turn_at-result.ensures.at.holds (labels_in told.one) told.mine_is
     (turn_amid at.view.core tells.number tells.flush told.one tells.is) c.leave.ensures.goes c.enter-desk.ensures.mine c.leave.ensures.seen
     c.leave.ensures.mine) flight.slot c.turn_at-result.result c.turn_at-result.ensures.counts
