@@ -24,13 +24,13 @@ use Rattle.disk_box.specs.declared.kind.Kind.TheVariants as kind
 use Rattle.disk_box.specs.declared.desk.Slot.{Slot}
 use Rattle.disk_box.specs.Calls.{FollowsWrite, written_of}
 use Rattle.disk_box.specs.Counting.{CountsDown, due_at}
-use Rattle.disk_box.specs.Kind.{HasKind, kind_of}
-use Rattle.disk_box.specs.Pens.{PenHand, TellsLabel, WorksAtDesk, calls_at, past_at}
+use Rattle.disk_box.specs.Kind.{HasKind}
+use Rattle.disk_box.specs.Pens.{PenHand, TellsLabel, WorksAtDesk, past_at}
 use Rattle.disk_box.specs.Serving.{GoesBeside, IsServed, IsServing, ServesOne, due_served}
 use Rattle.disk_box.specs.Slots.{IsClosingOf, IsFilledOf, IsFillingOf, IsOpenedOf, IsSealedOf, PhaseFits}
 use Rattle.disk_box.proofs.AtSlots.{IsTold, told_at}
 use Rattle.disk_box.proofs.Due.{due_fits, fill_step, sealed_due, served_shut, served_still, settled_due}
-use Rattle.disk_box.proofs.Nexts.{next_filled, next_opened}
+use Rattle.disk_box.proofs.Nexts.{next_filled}
 use Rattle.disk_box.proofs.Phases.{closing_is, filled_is, filling_is, opened_is, sealed_is}
 use Rattle.disk_box.proofs.StepsTold.{call_told}
 

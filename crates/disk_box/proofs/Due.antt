@@ -1,5 +1,5 @@
 -- How many device calls are due of a commit, by the phase of its slot.
-use Rattle.std.proofs.Common.{◌≡◌, ◌≢◌, ◌+◌, ◌<◌, ◌∙◌, ℕ, Bool, true, false, cond, Option, Some, None, refl, ap, arith}
+use Rattle.std.proofs.Common.{◌≡◌, ◌≢◌, ◌+◌, ◌<◌, ℕ, Bool, true, false, cond, Option, Some, None, refl, ap, arith}
 use Rattle.journal_one.specs.Job.{Job, Place, fill_count}
 use Rattle.journal_one.specs.Stage.{Stage, left_to_fill}
 use Rattle.slot_laws.specs.Schedule.{all_on_disk, calls_due, due_in, unwritten}

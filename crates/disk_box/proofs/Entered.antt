@@ -1,31 +1,31 @@
 -- A core that takes the box finds in it a desk that fits, and brings home one that does.
-use Rattle.sfs_dev.proofs.Runs.{GoesOn-refl}
 use Rattle.std.proofs.Common.{◌≡◌, ◌+◌, ◌<◌, ◌≤◌, ◌∷◌, ◌++◌, ◌∙◌, ℕ, List, [], Option, Some, None, inl, refl, sym, ap, subst, arith, IsSome, append_assoc, length, length-append, option_map}
+use Rattle.std.proofs.lemmas.List.{nil_from_length}
+use Rattle.std.proofs.lemmas.List.Elements.{filter-append}
 use Rattle.sfs_image.specs.Super.{Layout}
 use Rattle.sfs_dev.specs.Disk.{View}
+use Rattle.sfs_dev.proofs.Runs.{GoesOn-refl}
 use Rattle.tree_laws.specs.Tree.{TreeState}
 use Rattle.stamp_table.specs.declared.event.Event.{Event}
 use Rattle.stamp_table.specs.declared.event.Event.TheVariants.{Told}
 use Rattle.stamp_table.specs.declared.held.HeldCell.{HeldCell}
 use Rattle.stamp_table.specs.declared.view.View.{View as Sight}
 use Rattle.stamp_table.specs.Events.{event_core}
-use Rattle.std.proofs.lemmas.List.{nil_from_length}
-use Rattle.std.proofs.lemmas.List.Elements.{filter-append}
-use Rattle.stamp_table.proofs.Logs.{own_comes}
 use Rattle.stamp_table.specs.Rule.{Has, entries_by, is_by}
 use Rattle.stamp_table.specs.Hand.{Desk as TableName}
 use Rattle.stamp_table.specs.Table.{TableState, HoldsMore, TellsFact, MayTell, cell_at, with_value}
+use Rattle.stamp_table.proofs.Logs.{own_comes}
 use Rattle.slot_laws.specs.declared.label.Label.{Label}
 use Rattle.slot_laws.specs.declared.label.Label.TheVariants as label
-use Rattle.slot_laws.specs.Labels.{BoxPast, OwnTold, after_label, first_past, own_from, nothing_told, past_from}
+use Rattle.slot_laws.specs.Labels.{BoxPast, OwnTold, after_label, first_past, own_from, nothing_told}
 use Rattle.slot_laws.specs.Fits.{PastFits}
 use Rattle.slot_laws.proofs.Lawful.{lawful_fits, first_fits}
 use Rattle.slot_laws.proofs.NodesTold.{past_parts}
+use Rattle.slot_laws.proofs.GrantsTold.{goes_both}
 use Rattle.slot_image_laws.proofs.Running.{told_labels_fit}
 use Rattle.disk_box.specs.declared.key.BoxKey.{BoxKey}
 use Rattle.disk_box.specs.declared.desk.Desk.{Desk}
 use Rattle.disk_box.specs.Box.{past_of, LawfulBox, StandsBox, SpaceFits, IsHome}
-use Rattle.slot_laws.proofs.GrantsTold.{goes_both}
 use Rattle.disk_box.specs.Desk.{DeskFits, open_for, owed_of}
 use Rattle.disk_box.specs.Pens.{PenHand, past_at, own_at, IsOutside, HoldsBox, PenGoes, TakesBox}
 use Rattle.disk_box.proofs.Frames.{at_itself}

@@ -1,11 +1,12 @@
 -- A commit that fails.
-use Rattle.std.proofs.Common.{◌≡◌, ◌≤◌, ◌∷◌, ◌++◌, ◌∙◌, ℕ, [], Option, Some, None, sym, ap, subst, arith}
 use Rattle.std.specs.Option.{option_or}
+use Rattle.std.proofs.Common.{◌≡◌, ◌≤◌, ◌∷◌, ◌++◌, ◌∙◌, ℕ, [], Option, Some, None, sym, ap, subst, arith}
 use Rattle.sfs_base.proofs.BasicOptions.{or_none, some_not_none}
 use Rattle.sfs_dev.specs.Disk.{View}
 use Rattle.tree_laws.specs.declared.turns.Turn.{Turn}
 use Rattle.tree_laws.specs.declared.turns.TurnAct.{TurnAct}
 use Rattle.tree_laws.specs.declared.turns.TurnAct.TheVariants as act
+use Rattle.turn_laws.specs.Books.{CountsFaults}
 use Rattle.merge_laws.specs.Pens.{failure_by}
 use Rattle.stamp_table.specs.Table.{TableState}
 use Rattle.slot_laws.specs.Labels.{BoxPast, after_label}
@@ -18,7 +19,6 @@ use Rattle.disk_box.specs.Desk.{FaultsFit, FrameFits, owed_by}
 use Rattle.disk_box.specs.Pens.{PenHand, past_at, HoldsBox, TellsLabel, IsAtDesk}
 use Rattle.disk_box.proofs.After.{at_told, failed_told, frame_told, past_fits_at, space_told}
 use Rattle.disk_box.proofs.Noted.{noted_frame}
-use Rattle.turn_laws.specs.Books.{CountsFaults}
 
 -- A failure is noted, and the desk keeps it: it fits, whatever its slots are.
 module _ {D : Type 0} (view : D → View) (t : TableState (BoxKey D)) (before after : PenHand D) (turn : Turn) (was now : Desk D) where

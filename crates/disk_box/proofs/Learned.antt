@@ -1,6 +1,5 @@
 -- A core learns of the turn that waits for it.
-use Rattle.disk_box.specs.Desk.{GoesOnSince, HaveFew}
-use Rattle.std.proofs.Common.{◌≡◌, ◌≢◌, ◌<◌, ◌≤◌, ◌∙◌, ℕ, true, false, List, [], length, slice_set, Option, Some, None, IsSome, inl, inr, refl, sym, ap, subst, arith, option_map, max}
+use Rattle.std.proofs.Common.{◌≡◌, ◌<◌, ◌≤◌, ◌∙◌, ℕ, true, false, length, slice_set, Option, Some, None, inl, inr, refl, sym, ap, subst, arith, option_map, max}
 use Rattle.sfs_base.proofs.BasicOptions.{none_some, some_same}
 use Rattle.sfs_dev.specs.Disk.{View}
 use Rattle.tree_laws.specs.declared.turns.Turn.{Turn}
@@ -12,14 +11,14 @@ use Rattle.slot_laws.specs.Rules.{IsTurnBy, LearnedRule}
 use Rattle.slot_laws.specs.Fits.{PastFits, Landed}
 use Rattle.slot_laws.specs.declared.label.Label.TheVariants as label
 use Rattle.slot_laws.proofs.Basics.{at_same, at_other}
-use Rattle.slot_image_laws.proofs.Running.{told_labels_fit}
-use Rattle.slot_image_laws.specs.Run.{RunFits}
 use Rattle.commit_ledger.specs.Keeps.{LedgerKeeps}
 use Rattle.commit_ledger.specs.View.{open_in}
 use Rattle.commit_ledger.proofs.Kept.{quiet_labels_keep_it as keeps_same}
+use Rattle.slot_image_laws.specs.Run.{RunFits}
+use Rattle.slot_image_laws.proofs.Running.{told_labels_fit}
+use Rattle.disk_box.specs.Desk.{GoesOnSince, HaveFew, DeskFits, FrameFits, open_for, open_told, owed_of, wait_in}
 use Rattle.disk_box.specs.declared.key.BoxKey.{BoxKey}
 use Rattle.disk_box.specs.declared.desk.Desk.{Desk}
-use Rattle.disk_box.specs.Desk.{DeskFits, FrameFits, RoomFits, open_for, open_told, owed_by, owed_of, wait_in}
 use Rattle.disk_box.specs.Slots.{SlotsFit}
 use Rattle.disk_box.specs.Turns.{Lands}
 use Rattle.disk_box.proofs.Frames.{owed_less, own_after, others_after}

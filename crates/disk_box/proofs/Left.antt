@@ -8,17 +8,17 @@ use Rattle.stamp_table.specs.declared.held.HeldCell.{HeldCell}
 use Rattle.stamp_table.specs.declared.view.View.{View as Sight}
 use Rattle.stamp_table.specs.Events.{event_core}
 use Rattle.stamp_table.specs.Rule.{entries_by}
-use Rattle.stamp_table.proofs.Logs.{own_comes}
 use Rattle.stamp_table.specs.Hand.{Desk as TableName, places_of}
 use Rattle.stamp_table.specs.Table.{TableState, TellsFact, MayTell, LetsGo, Stands, EachFrom, cell_at, with_value, left_below}
+use Rattle.stamp_table.proofs.Logs.{own_comes}
 use Rattle.slot_laws.specs.declared.label.Label.{Label}
 use Rattle.slot_laws.specs.declared.label.Label.TheVariants as label
 use Rattle.slot_laws.specs.Labels.{BoxPast, after_label, first_past, own_from, nothing_told}
 use Rattle.slot_laws.proofs.NodesTold.{past_parts}
+use Rattle.slot_laws.proofs.GrantsTold.{goes_both}
 use Rattle.disk_box.specs.declared.key.BoxKey.{BoxKey}
 use Rattle.disk_box.specs.declared.desk.Desk.{Desk}
 use Rattle.disk_box.specs.Box.{past_of, SpaceFits, IsHome}
-use Rattle.slot_laws.proofs.GrantsTold.{goes_both}
 use Rattle.disk_box.specs.Desk.{DeskFits}
 use Rattle.disk_box.specs.Pens.{PenHand, past_at, own_at, IsOutside, HoldsBox, PenGoes}
 use Rattle.disk_box.proofs.Telling.{Lawful, Stood, may_tell_here, own_more, seen_is, goes_told}

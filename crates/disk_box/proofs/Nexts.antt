@@ -1,5 +1,5 @@
 -- What is known of a slot's commit once it was written for: the phase that comes next fits.
-use Rattle.std.proofs.Common.{◌≡◌, ◌+◌, ◌<◌, ◌≤◌, ◌&&◌, ◌||◌, ◌∙◌, ℕ, Bool, true, false, length, Some, inl, inr, refl, sym, ap, subst, arith}
+use Rattle.std.proofs.Common.{◌≡◌, ◌+◌, ◌<◌, ◌&&◌, ◌||◌, ◌∙◌, ℕ, Bool, true, false, length, Some, inl, inr, refl, sym, ap, subst, arith}
 use Rattle.sfs_base.proofs.BasicNumbers.{not_same, same_number}
 use Rattle.journal_one.specs.Job.{Job, Place, fill_count}
 use Rattle.journal_one.specs.Stage.{Stage}

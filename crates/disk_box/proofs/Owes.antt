@@ -1,15 +1,14 @@
 -- How many turns cores may take yet, as one of them takes its last ones.
-use Rattle.std.proofs.Common.{◌≡◌, ◌≢◌, ◌⊎◌, ◌+◌, ◌<◌, ◌≤◌, ◌∙◌, ℕ, zero, suc, true, Option, Some, None, inl, inr, refl, sym, ap, arith}
-use Rattle.merge_laws.proofs.Blocks.{same_or_not}
-use Rattle.tree_laws.specs.declared.turns.Turn.{Turn}
-use Rattle.stamp_table.specs.Table.{TableState}
 use Rattle.std.specs.Prelude.{◌||◌}
+use Rattle.std.proofs.Common.{◌≡◌, ◌≢◌, ◌⊎◌, ◌+◌, ◌<◌, ◌≤◌, ◌∙◌, ℕ, zero, suc, true, Option, Some, None, inl, inr, refl, sym, ap, arith}
+use Rattle.tree_laws.specs.declared.turns.Turn.{Turn}
 use Rattle.tree_laws.specs.declared.turns.TurnAct.{TurnAct}
 use Rattle.tree_laws.specs.declared.turns.TurnAct.TheVariants as act
-use Rattle.slot_laws.specs.Labels.{ends_all}
+use Rattle.merge_laws.proofs.Blocks.{same_or_not}
+use Rattle.stamp_table.specs.Table.{TableState}
+use Rattle.slot_laws.specs.Labels.{ends_all, BoxPast, OwnTold, after_label, own_label, own_from, nothing_told}
 use Rattle.slot_laws.specs.declared.label.Label.{Label}
 use Rattle.slot_laws.specs.declared.label.Label.TheVariants as label
-use Rattle.slot_laws.specs.Labels.{BoxPast, OwnTold, after_label, own_label, own_from, nothing_told}
 use Rattle.slot_laws.proofs.Lawful.{own_is}
 use Rattle.disk_box.specs.declared.key.BoxKey.{BoxKey}
 use Rattle.disk_box.specs.declared.desk.Desk.{Desk}

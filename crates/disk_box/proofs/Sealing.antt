@@ -42,8 +42,7 @@ module _ (was now : List Slot) (k : ℕ) (sealed : AreSealedBelow k was now) whe
     | inl same ↦
         let there : slice_get now j ≡ Some has.slot = ap (slice_get now) same ∙ has.there in
         let is : has.slot ≡ old = (sealed j old has.slot before there).1 (omega (arith, same)) in
-        let new_is = get_same now k put j new same after in
-        (
+        let new_is = get_same now k put j new same after in (
           λ low. record {
             filled = λ e. subst (λ (z : Slot × Slot). TakesSync z.0 z.1) (λ i. (is i, sym new_is i)) takes;
             other = λ not. absurd (not (ap (λ (s : Slot). kind_of s.phase) (sym is) ∙ has.kind_is));

@@ -1,5 +1,4 @@
 -- A slot is served behind a sync: where no label is told of it, and where it is idle again.
-use Rattle.sfs_dev.proofs.Runs.{GoesOn-refl}
 use Rattle.std.specs.Prelude.{slice_get, Vec}
 use Rattle.std.specs.declared.alloc.Global.{Global}
 use Rattle.std.proofs.Common.{◌≡◌, ◌+◌, ◌∙◌, ℕ, List, [], length, Some, None, inl, inr, refl, sym, ap, subst, arith, slice_set, append-nil, false}
@@ -8,15 +7,17 @@ use Rattle.sfs_base.proofs.BasicOptions.{some_same}
 use Rattle.sfs_base.proofs.BasicTruth.{true_not_false}
 use Rattle.sfs_image.specs.Super.{Layout}
 use Rattle.sfs_dev.specs.Disk.{View}
+use Rattle.sfs_dev.proofs.Runs.{GoesOn-refl}
 use Rattle.journal_one.specs.Job.{Job}
 use Rattle.merge_laws.proofs.Blocks.{same_or_not}
+use Rattle.stamp_table.specs.Table.{TableState}
 use Rattle.slot_laws.specs.declared.label.Label.TheVariants as label
 use Rattle.slot_laws.specs.Slots.{SlotKnown, SlotWork, Slots, known_synced, place_at}
 use Rattle.slot_laws.specs.Labels.{BoxPast, after_label}
 use Rattle.slot_laws.specs.Rules.{IdledRule}
+use Rattle.slot_laws.specs.Telling.{IsOfStep, is_device_call}
 use Rattle.slot_laws.proofs.Basics.{at_other}
 use Rattle.slot_image_laws.proofs.Running.{told_labels_fit}
-use Rattle.stamp_table.specs.Table.{TableState}
 use Rattle.disk_box.specs.declared.key.BoxKey.{BoxKey}
 use Rattle.disk_box.specs.declared.desk.Desk.{Desk}
 use Rattle.disk_box.specs.declared.desk.Phase.{Phase}
@@ -28,7 +29,6 @@ use Rattle.disk_box.specs.Calls.{FollowsSync, NoneAwaits, TakesSync, awaits_sync
 use Rattle.disk_box.specs.Kind.{HasKind, kind_of}
 use Rattle.disk_box.specs.Serving.{GoesBeside, IsServing}
 use Rattle.disk_box.specs.Slots.{IsBeingPlaced, IsClosingOf, IsFilledOf, Notes, NotesWork, PhaseFits, SlotFits, SlotsFit}
-use Rattle.slot_laws.specs.Telling.{IsOfStep, is_device_call}
 use Rattle.disk_box.specs.Pens.{PenHand, past_at, own_at, HoldsBox, TellsLabel}
 use Rattle.disk_box.proofs.StepsTold.{no_call_told, step_told, steps_none}
 use Rattle.disk_box.proofs.After.{at_told, failed_told, past_fits_at}

@@ -1,7 +1,7 @@
 -- What was told of all slots, as each of them was served in turn.
-use Rattle.std.proofs.Common.{◌≡◌, ◌+◌, ◌<◌, ◌≤◌, ◌∙◌, ℕ, Option, Some, None, length, inl, inr, refl, sym, ap, subst, arith}
-use Rattle.sfs_dev.specs.Disk.{View}
+use Rattle.std.proofs.Common.{◌≡◌, ◌+◌, ◌<◌, ◌≤◌, ◌∙◌, ℕ, Option, None, length, inl, inr, sym, ap, subst, arith}
 use Rattle.sfs_image.specs.Settled.{slot_count}
+use Rattle.sfs_dev.specs.Disk.{View}
 use Rattle.cut_laws.proofs.Basics.{below_or}
 use Rattle.merge_laws.proofs.Blocks.{same_or_not}
 use Rattle.stamp_table.specs.Table.{TableState}
@@ -25,14 +25,12 @@ served_more before mid after k first one j = elim (same_or_not j k) [
       let still : (past_at mid).slots k ≡ (past_at before).slots k = (first k).1 (omega arith) in
       let here : IsServed ((past_at before).slots k) ((past_at after).slots k) =
       subst (λ w. IsServed w ((past_at after).slots k)) still one.here
-      in
-      (
+      in (
         λ low. subst (λ n. IsServed ((past_at before).slots n) ((past_at after).slots n)) (sym same) here,
         λ high. absurd (omega (arith, same, high)),
       )
   | inr not ↦
-      let other = one.others j not in
-      (
+      let other = one.others j not in (
         λ low. subst (IsServed ((past_at before).slots j)) (sym other) ((first j).0 (omega (arith, low, not))),
         λ high. other ∙ (first j).1 (omega (arith, high)),
       )

@@ -1,7 +1,6 @@
 -- A commit is durable behind a sync: its turn is taken, it has ended, and waits for its core to learn of it.
-use Rattle.disk_box.specs.Desk.{GoesOnSince, HaveFew}
 use Rattle.std.specs.Prelude.{is_some, slice_get, option_map}
-use Rattle.std.proofs.Common.{◌≡◌, ◌≢◌, ◌<◌, ◌≤◌, ◌+◌, ◌*◌, ◌/◌, ◌∷◌, ◌++◌, ◌∙◌, ℕ, Bool, List, [], length, true, false, cond, Option, Some, None, inl, inr, refl, sym, ap, subst, arith, slice_set, max}
+use Rattle.std.proofs.Common.{◌≡◌, ◌<◌, ◌≤◌, ◌+◌, ◌*◌, ◌∷◌, ◌++◌, ◌∙◌, ℕ, Bool, List, [], length, true, cond, Option, Some, None, inl, inr, refl, sym, ap, subst, arith, slice_set, max}
 use Rattle.std.proofs.lemmas.Grind.{get_or-set_at}
 use Rattle.std.proofs.lemmas.List.{get_or-set_other, length-set}
 use Rattle.std.proofs.lemmas.Option.{slice_get_within}
@@ -9,22 +8,23 @@ use Rattle.std.proofs.Math.Nat.{div-lt_iff_lt-mul}
 use Rattle.sfs_dev.specs.Disk.{View}
 use Rattle.journal_one.specs.Job.{Job, without_fresh}
 use Rattle.journal_one.specs.Stage.{Stage}
-use Rattle.merge_laws.proofs.Blocks.{same_or_not}
 use Rattle.tree_laws.specs.declared.turns.Turn.{Turn}
 use Rattle.tree_laws.specs.declared.turns.TurnAct.{TurnAct}
 use Rattle.tree_laws.specs.declared.turns.TurnAct.TheVariants as act
 use Rattle.turn_laws.specs.Books.{CountsFaults}
-use Rattle.commit_ledger.specs.Calls.{MayEnd, PaysDebt}
-use Rattle.commit_ledger.specs.Keeps.{LedgerGoes}
-use Rattle.commit_ledger.specs.View.{DebtView, OpenView, number_in, open_in}
-use Rattle.commit_ledger.proofs.Kept.{begun_may_end}
+use Rattle.merge_laws.proofs.Blocks.{same_or_not}
+use Rattle.stamp_table.specs.Table.{TableState}
 use Rattle.slot_laws.specs.declared.label.Label.TheVariants as label
 use Rattle.slot_laws.specs.Slots.{SlotWork, may_be_open, open_gate, place_at, settled_work, with_at}
 use Rattle.slot_laws.specs.Labels.{BoxPast, after_label, fsync_told, owner}
 use Rattle.slot_laws.specs.Rules.{IsTurnBy, SettledRule}
 use Rattle.slot_laws.proofs.Basics.{at_other, at_same, mapped_some}
+use Rattle.commit_ledger.specs.Calls.{MayEnd, PaysDebt}
+use Rattle.commit_ledger.specs.Keeps.{LedgerGoes}
+use Rattle.commit_ledger.specs.View.{DebtView, OpenView, number_in, open_in}
+use Rattle.commit_ledger.proofs.Kept.{begun_may_end}
 use Rattle.slot_image_laws.proofs.Running.{told_labels_fit}
-use Rattle.stamp_table.specs.Table.{TableState}
+use Rattle.disk_box.specs.Desk.{GoesOnSince, HaveFew, FrameFits, open_for, open_told, owed_by, owed_of, turn_faults, wait_in}
 use Rattle.disk_box.specs.declared.key.BoxKey.{BoxKey}
 use Rattle.disk_box.specs.declared.desk.Desk.{Desk}
 use Rattle.disk_box.specs.declared.desk.Phase.{Phase}
@@ -32,7 +32,6 @@ use Rattle.disk_box.specs.declared.desk.Phase.TheVariants as phase
 use Rattle.disk_box.specs.declared.desk.Slot.{Slot}
 use Rattle.disk_box.specs.declared.kind.Kind.TheVariants as kind
 use Rattle.disk_box.specs.Calls.{FollowsSync, NoneAwaits, TakesSync}
-use Rattle.disk_box.specs.Desk.{DeskFits, FrameFits, open_for, open_told, owed_by, owed_of, turn_faults, wait_in}
 use Rattle.disk_box.specs.Kind.{HasKind}
 use Rattle.disk_box.specs.Serving.{IsServing, owner_by}
 use Rattle.disk_box.specs.Slots.{IsOpenedOf, PhaseFits, SlotsFit}

@@ -1,21 +1,23 @@
 -- A label of a slot's device call, or of a slot that is idle again: what is kept beside the slots goes on to fit.
-use Rattle.sfs_dev.proofs.Runs.{GoesOn-call}
-use Rattle.std.proofs.Common.{◌≡◌, ◌+◌, ◌<◌, ◌≤◌, ◌^◌, ◌∙◌, ℕ, length, true, false, Option, Some, None, Result, Ok, Err, OnErr, OnOk, IfErr, refl, sym, ap, subst, arith, List, is_some, option_map, Bool}
+use Rattle.std.proofs.Common.{◌≡◌, ◌∙◌, ℕ, length, true, false, Option, Some, None, Result, Ok, Err, OnErr, OnOk, IfErr, refl, sym, ap, subst, arith, List, is_some, option_map, Bool}
 use Rattle.sfs_base.specs.Ends.{HasRisen}
 use Rattle.sfs_base.specs.declared.numbers.CoreId.{CoreId}
 use Rattle.sfs_image.specs.Super.{Layout}
 use Rattle.sfs_dev.specs.Disk.{View, Elapses, TornTold}
 use Rattle.sfs_dev.specs.Ranges.{put}
 use Rattle.sfs_dev.specs.Steps.{TellsAlike}
+use Rattle.sfs_dev.proofs.Runs.{GoesOn-call}
+use Rattle.journal_one.specs.Job.{Piece}
 use Rattle.space_map.specs.Space.{Space}
+use Rattle.tree_laws.specs.declared.turns.Turn.{Turn}
 use Rattle.stamp_table.specs.declared.event.Event.TheVariants.{Told}
 use Rattle.stamp_table.specs.Table.{TableState}
-use Rattle.tree_laws.specs.declared.turns.Turn.{Turn}
 use Rattle.slot_laws.specs.declared.label.Label.{Label}
 use Rattle.slot_laws.specs.declared.label.Label.TheVariants as label
 use Rattle.slot_laws.specs.Labels.{BoxPast, after_label}
 use Rattle.slot_laws.specs.Rules.{MayLabel}
 use Rattle.slot_laws.specs.Grants.{SpaceDoes}
+use Rattle.slot_laws.specs.Telling.{IsOfStep}
 use Rattle.slot_image_laws.specs.Run.{KeepsLaws, Writes}
 use Rattle.slot_image_laws.specs.Labels.{IsDoneBy}
 use Rattle.slot_image_laws.proofs.Running.{done_labels_fit}
@@ -25,14 +27,12 @@ use Rattle.disk_box.specs.Box.{SpaceFits}
 use Rattle.disk_box.specs.Calls.{AnswersCall}
 use Rattle.disk_box.specs.Desk.{FaultsFit, FrameFits, RoomFits}
 use Rattle.disk_box.specs.Slots.{SlotsFit}
-use Rattle.slot_laws.specs.Telling.{IsOfStep}
 use Rattle.disk_box.specs.Pens.{PenHand, past_at, HoldsBox, TellsLabel, WorksAtDesk, IsBroken}
 use Rattle.disk_box.specs.Steps.{Steps}
 use Rattle.disk_box.proofs.StepsTold.{once_told, step_told}
 use Rattle.disk_box.proofs.After.{failed_told, fits_told, frame_told, key_same, room_told, space_told}
 use Rattle.disk_box.proofs.Entered.{open_same, owed_same}
 use Rattle.disk_box.proofs.Quiet.{LeavesKept, SameBeside, frame_same, room_same}
-use Rattle.journal_one.specs.Job.{Piece}
 
 -- whether a label changes nothing but what is known of slots
 abbrev pub IsOfSlots : Label → Type 0

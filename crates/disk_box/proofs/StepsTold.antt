@@ -1,10 +1,10 @@
 -- That a pen has told of steps alone, and of how many device calls.
-use Rattle.std.proofs.Common.{◌≡◌, ◌+◌, ◌≤◌, ◌∷◌, ◌++◌, ◌∙◌, List, [], map, sym, ap, append_assoc, append-nil, arith, cond, false, true, Result, Ok, Err, OnOk}
+use Rattle.std.proofs.Common.{◌≡◌, ◌+◌, ◌≤◌, ◌∷◌, ◌++◌, ◌∙◌, List, [], sym, ap, append_assoc, append-nil, arith, cond, false, true, Result, Ok, Err, OnOk}
 use Rattle.std.proofs.lemmas.List.{map-append}
+use Rattle.tree_laws.specs.Tree.{TreeState}
 use Rattle.stamp_table.specs.declared.event.Event.{Event}
 use Rattle.stamp_table.specs.declared.event.Event.TheVariants.{Told}
 use Rattle.stamp_table.specs.declared.view.View.{View as Sight}
-use Rattle.tree_laws.specs.Tree.{TreeState}
 use Rattle.slot_laws.specs.declared.label.Label.{Label}
 use Rattle.slot_laws.specs.Telling.{AreSteps, IsOfStep, device_calls, is_device_call, labels_by}
 use Rattle.slot_laws.proofs.DeviceCalls.{device_calls_more, one_call_at_most}

@@ -1,21 +1,21 @@
 -- The step that syncs the disk: behind its call, and behind its label.
 use Rattle.std.specs.Prelude.{Vec, option_map, slice_get}
 use Rattle.std.specs.declared.alloc.Global.{Global}
-use Rattle.std.proofs.lemmas.Option.{slice_get_cases, slice_get_within}
-use Rattle.std.proofs.Common.{◌≡◌, ◌≢◌, ◌<◌, ◌≤◌, ◌+◌, ◌++◌, ◌∙◌, ℕ, List, [], length, true, false, Option, Some, None, Result, Ok, Err, OnOk, IfErr, inl, inr, refl, sym, ap, subst, arith, is_some}
 use Rattle.std.specs.Result.{is_ok}
+use Rattle.std.proofs.lemmas.Option.{slice_get_cases, slice_get_within}
+use Rattle.std.proofs.Common.{◌≡◌, ◌≢◌, ◌∙◌, ℕ, List, length, true, false, Option, Some, None, Result, Ok, Err, inl, inr, refl, sym, ap, subst, arith, is_some}
 use Rattle.sfs_base.specs.Ends.{HasRisen}
 use Rattle.sfs_image.specs.Super.{Layout}
 use Rattle.sfs_dev.specs.Disk.{View}
 use Rattle.journal_one.specs.Calls.{IsSync}
 use Rattle.journal_one.specs.Job.{Job, Place, fill_count}
+use Rattle.stamp_table.specs.Table.{TableState}
 use Rattle.slot_laws.specs.declared.label.Label.TheVariants as label
 use Rattle.slot_laws.specs.Slots.{SlotWork, Slots, knowing, known_synced, place_at, synced_slots}
 use Rattle.slot_laws.specs.Labels.{BoxPast}
 use Rattle.slot_laws.proofs.Basics.{mapped_some}
 use Rattle.slot_image_laws.specs.Run.{Syncs}
 use Rattle.slot_image_laws.proofs.Running.{failed_syncs_fit}
-use Rattle.stamp_table.specs.Table.{TableState}
 use Rattle.disk_box.specs.declared.key.BoxKey.{BoxKey}
 use Rattle.disk_box.specs.declared.desk.Desk.{Desk}
 use Rattle.disk_box.specs.declared.desk.Phase.{Phase}
@@ -29,7 +29,7 @@ use Rattle.disk_box.specs.Kind.{kind_of}
 use Rattle.disk_box.specs.Slots.{IsBeingFilled, Notes, PhaseFits, SlotFits, SlotsFit}
 use Rattle.disk_box.specs.Pens.{PenHand, past_at, HoldsBox, TellsLabel, WorksAtDesk}
 use Rattle.disk_box.specs.Steps.{Steps}
-use Rattle.disk_box.proofs.Quiet.{LeavesKept, frame_same}
+use Rattle.disk_box.proofs.Quiet.{frame_same}
 use Rattle.disk_box.proofs.Served.{goes_still, kept_itself}
 use Rattle.disk_box.proofs.StepsTold.{call_told, pens_both, step_told, steps_both}
 use Rattle.disk_box.proofs.Wrote.{where_err, where_ok}

@@ -1,18 +1,18 @@
 -- The steps of one write at a slot: when each label may be told, and what its core is at then.
 use Rattle.std.specs.Prelude.{Vec}
 use Rattle.std.specs.declared.alloc.Global.{Global}
-use Rattle.std.proofs.Common.{◌≡◌, ◌≤◌, ◌∙◌, ℕ, length, true, Bool, Some, Result, OnOk, refl, sym, ap, subst, arith, slice_set}
 use Rattle.std.specs.Result.{is_ok}
+use Rattle.std.proofs.Common.{◌≡◌, ◌≤◌, ◌∙◌, ℕ, length, true, Bool, Some, Result, OnOk, refl, sym, ap, subst, arith, slice_set}
 use Rattle.std.proofs.lemmas.List.{length-set}
 use Rattle.sfs_dev.specs.Disk.{View}
 use Rattle.journal_one.specs.Job.{Job, Place, fill_count, fill_piece, gate_piece, table_piece, without_fresh}
 use Rattle.journal_one.specs.Stage.{Stage}
+use Rattle.stamp_table.specs.Table.{TableState}
 use Rattle.slot_laws.specs.declared.label.Label.TheVariants as label
 use Rattle.slot_laws.specs.Slots.{SlotWork, changed_slot, known_filled, known_gated, known_placed, knowing, place_at, shut_gate}
 use Rattle.slot_laws.specs.Labels.{owner}
 use Rattle.slot_laws.specs.Rules.{FilledRule, IsOldestOf, PlacedRule, ShutRule}
 use Rattle.slot_image_laws.specs.Run.{Writes}
-use Rattle.stamp_table.specs.Table.{TableState}
 use Rattle.disk_box.specs.declared.key.BoxKey.{BoxKey}
 use Rattle.disk_box.specs.declared.desk.Desk.{Desk}
 use Rattle.disk_box.specs.declared.desk.Phase.{Phase}

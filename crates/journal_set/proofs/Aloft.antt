@@ -5,8 +5,8 @@ use Rattle.sfs_base.proofs.BasicTruth.{true_not_false}
 use Rattle.sfs_image.specs.Settled.{slot_count}
 use Rattle.sfs_dev.specs.Disk.{View}
 use Rattle.journal_one.specs.Job.{Place}
-use Rattle.stamp_table.specs.Table.{TableState}
 use Rattle.cut_laws.proofs.Basics.{below_or}
+use Rattle.stamp_table.specs.Table.{TableState}
 use Rattle.slot_laws.specs.Fits.{FlightFits, IsFlying}
 use Rattle.slot_laws.specs.Labels.{OwnTold, SlotFlight, owner}
 use Rattle.slot_laws.specs.Slots.{SlotWork, may_be_open, place_at}

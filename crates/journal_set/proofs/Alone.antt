@@ -1,12 +1,9 @@
 -- Turns of a commit one after the other, where nobody else told anything between.
-use Rattle.std.proofs.Common.{◌≡◌, ◌⊎◌, ◌+◌, ◌<◌, ◌∷◌, ◌++◌, ◌∙◌, ℕ, List, [], length, Result, Ok, Err, IfOk, inl, inr, refl, sym, ap, subst, arith, append_assoc, append-nil, length-append}
-use Rattle.std.proofs.lemmas.List.{append_cancel_left, nil_from_length}
+use Rattle.std.proofs.Common.{◌≡◌, ◌⊎◌, ◌<◌, ◌∷◌, ◌++◌, ◌∙◌, ℕ, List, [], length, Result, Ok, Err, IfOk, inl, inr, refl, sym, ap, subst, arith, append_assoc, append-nil, length-append}
+use Rattle.std.proofs.lemmas.List.{append_cancel_left}
 use Rattle.std.proofs.lemmas.List.Elements.{filter-append}
-use Rattle.cut_laws.proofs.Basics.{below_or}
-use Rattle.tree_laws.specs.Tree.{TreeState}
 use Rattle.journal_one.specs.Packed.{Contents}
 use Rattle.stamp_table.specs.declared.event.Event.{Event}
-use Rattle.stamp_table.specs.declared.view.View.{View as Sight}
 use Rattle.stamp_table.specs.Events.{event_core}
 use Rattle.stamp_table.specs.Rule.{entries_by, is_by}
 use Rattle.stamp_table.specs.Table.{TableState}
@@ -21,7 +18,7 @@ use Rattle.disk_box.specs.Pens.{IsOutside, PenGoes, PenHand, calls_at, past_at}
 use Rattle.journal_set.specs.declared.fault.Ack.{Ack}
 use Rattle.journal_set.specs.declared.fault.CommitFault.{CommitFault}
 use Rattle.journal_set.specs.declared.flying.Flight.{Flight}
-use Rattle.journal_set.specs.Counting.{BeginsScheduled, GoesAlone, IsBegunAlone, LandsScheduled, MakesScheduled, past_behind, scheduled_calls}
+use Rattle.journal_set.specs.Counting.{BeginsScheduled, GoesAlone, IsBegunAlone, LandsScheduled, MakesScheduled, past_behind}
 use Rattle.journal_set.proofs.OwnEvents.{BeginsWith, begins_with, more_passes, parts_pass, same_front}
 use Rattle.journal_set.proofs.Turned.{core_kept}
 

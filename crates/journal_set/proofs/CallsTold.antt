@@ -1,9 +1,8 @@
 -- Of how many device calls a core tells where it begins a commit, learns that it is durable, or ends it.
 use Rattle.std.specs.Prelude.{slice_get}
-use Rattle.std.proofs.Common.{◌≡◌, ◌≢◌, ◌⊎◌, ◌+◌, ◌≤◌, ◌∷◌, ◌++◌, ◌∙◌, ℕ, Bool, true, false, cond, List, [], length, Option, Some, None, inl, inr, Result, Ok, Err, refl, sym, ap, subst, arith}
+use Rattle.std.proofs.Common.{◌≡◌, ◌≢◌, ◌⊎◌, ◌+◌, ◌∷◌, ◌∙◌, ℕ, Bool, true, false, List, [], length, Option, Some, None, inl, inr, refl, sym, ap, arith}
 use Rattle.sfs_base.proofs.BasicOptions.{none_some, some_same}
 use Rattle.sfs_dev.specs.Disk.{View}
-use Rattle.journal_one.specs.Job.{Job, Place}
 use Rattle.journal_one.specs.Packed.{Contents}
 use Rattle.tree_laws.specs.declared.turns.Turn.{Turn}
 use Rattle.cut_laws.specs.Closure.{Flush}
@@ -15,7 +14,7 @@ use Rattle.slot_laws.specs.Labels.{BoxPast, OwnTold, fsync_told, owner}
 use Rattle.slot_laws.specs.Schedule.{AllIdle, OthersIdle, calls_due, due_in}
 use Rattle.slot_laws.specs.Slots.{SlotWork, begun_work}
 use Rattle.slot_laws.specs.Telling.{device_calls, labels_by}
-use Rattle.slot_laws.proofs.Basics.{at_here, at_other, at_same}
+use Rattle.slot_laws.proofs.Basics.{at_other, at_same}
 use Rattle.slot_laws.proofs.DeviceCalls.{device_calls_append}
 use Rattle.slot_laws.proofs.Schedule.{beginnings_take_all}
 use Rattle.disk_box.specs.declared.key.BoxKey.{BoxKey}
@@ -25,7 +24,7 @@ use Rattle.disk_box.specs.declared.kind.Kind.{Kind}
 use Rattle.disk_box.specs.declared.kind.Kind.TheVariants as kind
 use Rattle.disk_box.specs.Counting.{CountsDown, due_at}
 use Rattle.disk_box.specs.Kind.{HasKind, kind_of}
-use Rattle.disk_box.specs.Pens.{HoldsBox, IsAtDesk, PenHand, Tells, TellsLabel, WorksAtDesk, calls_at, own_at, past_at}
+use Rattle.disk_box.specs.Pens.{IsAtDesk, PenHand, Tells, TellsLabel, WorksAtDesk, calls_at, own_at, past_at}
 use Rattle.disk_box.specs.Turns.{TellsBegunFailure, TellsFailure, TellsHalt}
 use Rattle.disk_box.proofs.After.{past_fits_at}
 use Rattle.disk_box.proofs.AtSlots.{told_at}

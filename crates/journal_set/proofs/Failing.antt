@@ -2,8 +2,8 @@
 use Rattle.std.proofs.Common.{◌≡◌, ◌<◌, ◌≤◌, ◌∙◌, ℕ, Bool, true, false, None, Ok, Err, inl, inr, sym, ap, subst, arith}
 use Rattle.sfs_base.specs.Ends.{HasRisen}
 use Rattle.sfs_dev.specs.Disk.{View}
-use Rattle.stamp_table.specs.Table.{TableState}
 use Rattle.cut_laws.specs.Closure.{Flush}
+use Rattle.stamp_table.specs.Table.{TableState}
 use Rattle.slot_laws.specs.Labels.{OwnTold, SlotFlight}
 use Rattle.disk_box.specs.declared.key.BoxKey.{BoxKey}
 use Rattle.disk_box.specs.declared.desk.Desk.{Desk}

@@ -1,5 +1,5 @@
 -- What a core has reserved is among the commits that are open, with its grant.
-use Rattle.std.proofs.Common.{◌≡◌, ◌≢◌, ◌∷◌, ◌++◌, ◌∙◌, ℕ, List, [], true, false, map, filter, cond, nat_eq, Option, Some, None, inl, inr, refl, sym, ap, subst}
+use Rattle.std.proofs.Common.{◌≡◌, ◌≢◌, ◌∷◌, ◌∙◌, ℕ, List, [], true, false, map, cond, nat_eq, Option, Some, None, inl, inr, refl, sym, ap, subst}
 use Rattle.sfs_base.proofs.BasicNumbers.{same_number, not_same}
 use Rattle.sfs_base.proofs.BasicOptions.{none_some, some_same}
 use Rattle.sfs_image.specs.Super.{Layout}
@@ -12,6 +12,7 @@ use Rattle.stamp_table.specs.declared.event.Event.{Event}
 use Rattle.stamp_table.specs.declared.event.Event.TheVariants.{Called, Told}
 use Rattle.stamp_table.specs.Events.{event_core}
 use Rattle.stamp_table.specs.Rule.{entries_by}
+use Rattle.stamp_table.specs.Table.{TableState}
 use Rattle.slot_laws.specs.declared.label.Label.{Label}
 use Rattle.slot_laws.specs.declared.label.Label.TheVariants as label
 use Rattle.slot_laws.specs.Nodes.{ReservedCommit, commits_but, is_numbered_otherwise, giving_up, no_numbers}
@@ -21,10 +22,9 @@ use Rattle.slot_laws.specs.Fits.{PastFits}
 use Rattle.slot_laws.proofs.Labels.{label_fits}
 use Rattle.slot_laws.proofs.Lawful.{first_fits}
 use Rattle.commit_ledger.specs.Keeps.{WasGranted}
-use Rattle.disk_box.proofs.Frames.{own_after, others_after}
-use Rattle.stamp_table.specs.Table.{TableState}
 use Rattle.disk_box.specs.declared.key.BoxKey.{BoxKey}
 use Rattle.disk_box.specs.Pens.{PenHand, HoldsBox, past_at}
+use Rattle.disk_box.proofs.Frames.{own_after, others_after}
 use Rattle.journal_set.specs.Grants.{grant_after, grant_at, grant_from}
 
 -- one of a list whose number is another is among those with another number

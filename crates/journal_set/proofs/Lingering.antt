@@ -1,6 +1,6 @@
 -- Where a core that has reserved has no idle slot, a durable commit lingers in one of its own.
-use Rattle.std.proofs.Common.{◌≡◌, ◌*◌, ◌∙◌, ℕ, Bool, true, false, length, Option, Some, None, inl, inr, refl, sym, ap, subst, arith}
 use Rattle.std.specs.Prelude.{slice_get}
+use Rattle.std.proofs.Common.{◌≡◌, ◌*◌, ◌∙◌, ℕ, Bool, true, false, length, Option, Some, None, inl, inr, refl, sym, ap, subst, arith}
 use Rattle.std.proofs.lemmas.Option.{slice_get_cases}
 use Rattle.sfs_base.proofs.BasicOptions.{none_some}
 use Rattle.sfs_dev.specs.Disk.{View}

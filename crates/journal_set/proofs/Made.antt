@@ -1,18 +1,18 @@
 -- A box that begins fits what no label has told, and its pens are new.
-use Rattle.sfs_dev.specs.Run.{Advances}
-use Rattle.sfs_dev.proofs.Runs.{GoesOn-refl}
 use Rattle.std.specs.declared.snapshot.Snapshot.{Snapshot}
-use Rattle.std.proofs.Common.{◌≡◌, ◌+◌, ◌*◌, ◌<◌, ◌≤◌, ◌∷◌, ◌++◌, ◌∙◌, ◌/◌, ◌%◌, ℕ, zero, suc, List, [], length, Option, Some, None, refl, sym, ap, subst, arith, replicate, max}
 use Rattle.std.specs.Prelude.{slice_get, slice_index_or}
-use Rattle.std.proofs.lemmas.List.{length-replicate}
 use lib.ListN.{get_elem?}
 use mathlib.Core.Option.{some}
+use Rattle.std.proofs.Common.{◌≡◌, ◌+◌, ◌*◌, ◌<◌, ◌≤◌, ◌∷◌, ◌++◌, ◌∙◌, ◌/◌, ◌%◌, ℕ, zero, suc, List, [], length, Option, Some, None, refl, sym, ap, subst, arith, replicate, max}
+use Rattle.std.proofs.lemmas.List.{length-replicate}
 use Rattle.std.proofs.Math.Nat.{div-add-mod, mul_comm}
 use Rattle.sfs_base.proofs.BasicOptions.{some_same}
 use Rattle.sfs_image.specs.Super.{IsLayout, Layout}
-use Rattle.journal_one.specs.Job.{Place}
+use Rattle.sfs_dev.specs.Run.{Advances}
 use Rattle.sfs_dev.specs.Disk.{View}
 use Rattle.sfs_dev.specs.Steps.{TellsAlike}
+use Rattle.sfs_dev.proofs.Runs.{GoesOn-refl}
+use Rattle.journal_one.specs.Job.{Place}
 use Rattle.tree_laws.specs.Tree.{TreeState}
 use Rattle.tree_laws.specs.declared.turns.Turn.{Turn}
 use Rattle.stamp_table.specs.declared.event.Event.{Event}
@@ -22,10 +22,10 @@ use Rattle.stamp_table.specs.Hand.{Desk as TableDesk}
 use Rattle.stamp_table.specs.Table.{AreAllCores, AreIdleFrom, AreInSlots, AreNew, CoresHaveRoom, IsTableOf, TableState}
 use Rattle.slot_laws.specs.Labels.{first_past}
 use Rattle.slot_laws.specs.Slots.{place_at}
-use Rattle.slot_image_laws.specs.Run.{KeepsLaws}
-use Rattle.slot_image_laws.proofs.Running.{first_runs_fit}
 use Rattle.commit_ledger.specs.View.{OpenView}
 use Rattle.commit_ledger.specs.Keeps.{LedgerKeeps}
+use Rattle.slot_image_laws.specs.Run.{KeepsLaws}
+use Rattle.slot_image_laws.proofs.Running.{first_runs_fit}
 use Rattle.disk_box.specs.declared.key.BoxKey.{BoxKey}
 use Rattle.disk_box.specs.declared.desk.Desk.{Desk}
 use Rattle.disk_box.specs.Box.{IsHome}

@@ -1,10 +1,10 @@
 -- A number that a core reserves is above those that were reserved before.
-use Rattle.std.proofs.Common.{◌≡◌, ◌+◌, ◌<◌, ◌≤◌, ◌∷◌, ◌++◌, ◌∙◌, ◌⊎◌, ◌==◌, ℕ, Bool, cond, List, [], Option, Some, None, inl, inr, refl, sym, ap, subst, ⊎_elim, arith, append-nil}
+use Rattle.std.specs.List.{cons_option}
+use Rattle.std.proofs.Common.{◌≡◌, ◌+◌, ◌≤◌, ◌∷◌, ◌++◌, ◌∙◌, ◌⊎◌, ◌==◌, ℕ, Bool, cond, List, [], Option, Some, None, inl, inr, refl, sym, ap, subst, ⊎_elim, arith, append-nil}
 use Rattle.std.proofs.lemmas.Bool.{cases_Bool}
 use Rattle.std.proofs.lemmas.List.Elements.{filter_map-append}
-use Rattle.std.specs.List.{cons_option}
-use Rattle.sfs_base.proofs.BasicOptions.{none_some, some_same}
 use Rattle.sfs_base.specs.declared.numbers.CoreId.{CoreId}
+use Rattle.sfs_base.proofs.BasicOptions.{none_some, some_same}
 use Rattle.sfs_image.specs.Super.{Layout}
 use Rattle.cut_laws.specs.Rules.{IsOneOf}
 use Rattle.stamp_table.specs.declared.event.Event.{Event}

@@ -1,6 +1,6 @@
 -- Lists of which a front has none that pass a test, and what follows has no others.
 use Rattle.std.specs.Prelude.{filter}
-use Rattle.std.proofs.Common.{◌≡◌, ◌+◌, ◌<◌, ◌≤◌, ◌∷◌, ◌++◌, ◌∙◌, ℕ, Bool, true, false, cond, List, [], length, refl, sym, ap, arith, append-nil}
+use Rattle.std.proofs.Common.{◌≡◌, ◌<◌, ◌≤◌, ◌∷◌, ◌++◌, ◌∙◌, Bool, true, false, cond, List, [], length, refl, sym, ap, arith, append-nil}
 use Rattle.sfs_base.proofs.BasicTruth.{true_not_false}
 use Rattle.merge_laws.proofs.Lists.{heads_are}
 

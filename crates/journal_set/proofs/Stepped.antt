@@ -1,5 +1,5 @@
 -- A step by what it answers.
-use Rattle.std.proofs.Common.{◌+◌, ◌≤◌, ℕ, Ok, Err, arith, refl}
+use Rattle.std.proofs.Common.{ℕ, Ok, Err, arith, refl}
 use Rattle.sfs_dev.specs.Disk.{View}
 use Rattle.stamp_table.specs.Table.{TableState}
 use Rattle.disk_box.specs.declared.key.BoxKey.{BoxKey}

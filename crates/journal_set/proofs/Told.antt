@@ -4,6 +4,7 @@ use Rattle.tree_laws.specs.Tree.{TreeState}
 use Rattle.tree_laws.specs.declared.turns.TurnAct.TheVariants as act
 use Rattle.tree_laws.specs.declared.turns.Turn.{Turn}
 use Rattle.cut_laws.specs.Closure.{Flush}
+use Rattle.turn_laws.specs.Ways.{Way}
 use Rattle.stamp_table.specs.declared.view.View.{View as Sight}
 use Rattle.stamp_table.specs.declared.event.Event.{Event}
 use Rattle.stamp_table.specs.declared.event.Event.TheVariants.{Told}
@@ -13,6 +14,7 @@ use Rattle.slot_laws.specs.Labels.{own_from, nothing_told, OwnTold}
 use Rattle.slot_laws.specs.Rules.{IsTurnBy}
 use Rattle.slot_laws.specs.declared.label.Label.TheVariants as label
 use Rattle.slot_laws.proofs.Telling.{own_both, labels_told, labels_both, events_both}
+use Rattle.commit_ledger.specs.declared.last.Last.{Last}
 use Rattle.disk_box.specs.Pens.{PenHand, Tells, own_at, TellsSteps, PenGoes}
 use Rattle.disk_box.specs.Turns.{TellsFailure, TellsBegunFailure, TellsOpening}
 use Rattle.disk_box.specs.Steps.{OpensFlight}

@@ -6,6 +6,7 @@ use Rattle.space_map.specs.Space.{GrantedNumbers}
 use Rattle.tree_laws.specs.declared.turns.Turn.{Turn}
 use Rattle.tree_laws.specs.declared.turns.TurnAct.TheVariants as act
 use Rattle.cut_laws.specs.Closure.{Flush}
+use Rattle.turn_laws.specs.Ways.{Way}
 use Rattle.slot_laws.specs.Labels.{OwnTold, SlotFlight}
 use Rattle.slot_laws.specs.Telling.{BoxTurn, AreOfWork, turn_works, turn_lands, turn_refuses, AreOfFlight}
 use Rattle.slot_laws.specs.declared.label.Label.{Label}

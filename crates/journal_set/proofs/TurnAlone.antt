@@ -1,13 +1,11 @@
 -- One turn at the box from outside: what others told before it, what its core told then, and what is told of slots and calls.
-use Rattle.std.proofs.Common.{◌≡◌, ◌+◌, ◌<◌, ◌≤◌, ◌∷◌, ◌++◌, ◌∙◌, ℕ, List, [], length, cond, Result, Ok, Err, refl, sym, ap, subst, arith, append_assoc}
+use Rattle.std.proofs.Common.{◌≡◌, ◌+◌, ◌<◌, ◌≤◌, ◌∷◌, ◌++◌, ◌∙◌, ℕ, List, [], length, cond, Result, Ok, Err, sym, ap, subst, arith, append_assoc}
 use Rattle.std.proofs.lemmas.List.{append_cancel_left}
 use Rattle.std.proofs.lemmas.List.Elements.{filter-append}
 use Rattle.sfs_base.proofs.BasicNumbers.{same_number}
-use Rattle.tree_laws.specs.Tree.{TreeState}
 use Rattle.journal_one.specs.Packed.{Contents}
 use Rattle.stamp_table.specs.declared.event.Event.{Event}
 use Rattle.stamp_table.specs.declared.event.Event.TheVariants.{Told}
-use Rattle.stamp_table.specs.declared.view.View.{View as Sight}
 use Rattle.stamp_table.specs.Events.{event_core}
 use Rattle.stamp_table.specs.Rule.{entries_by, is_by}
 use Rattle.stamp_table.specs.Table.{TableState}
@@ -21,14 +19,15 @@ use Rattle.slot_laws.proofs.DeviceCalls.{device_calls_more}
 use Rattle.slot_laws.proofs.NodesTold.{may_parts, past_parts}
 use Rattle.disk_box.specs.declared.key.BoxKey.{BoxKey}
 use Rattle.disk_box.specs.Box.{LawfulBox, past_of}
-use Rattle.disk_box.specs.Counting.{CountsFrom, GoesDown, due_at}
+use Rattle.disk_box.specs.Counting.{CountsFrom, due_at}
 use Rattle.disk_box.specs.Pens.{HoldsBox, PenGoes, PenHand, TakesBox, Tells, calls_at, past_at}
 use Rattle.journal_set.specs.declared.fault.CommitFault.{CommitFault}
+use Rattle.journal_set.specs.declared.flying.Flight.{Flight}
 use Rattle.journal_set.specs.declared.flying.Progress.{Progress}
 use Rattle.journal_set.specs.declared.flying.Progress.TheVariants as progress
 use Rattle.journal_set.specs.declared.waiting.Beginning.{Beginning}
 use Rattle.journal_set.specs.declared.waiting.Beginning.TheVariants as beginning
-use Rattle.journal_set.specs.Counting.{BeginsAlone, BeginsInTurn, BeginsOnce, GoesAlone, IsBegunAlone, LeavesDue, WorksInTurn, WorksOnce, past_behind}
+use Rattle.journal_set.specs.Counting.{BeginsAlone, BeginsInTurn, BeginsOnce, BringsOn, GoesAlone, IsBegunAlone, LeavesDue, WorksInTurn, WorksOnce, past_behind}
 use Rattle.journal_set.proofs.AmidTurns.{AreAmid, all_own}
 use Rattle.journal_set.proofs.Turned.{core_kept}
 
@@ -177,13 +176,17 @@ module _ {D : Type 0} (before at done after : PenHand D) (around : IsAround befo
   leaves_around k progress.Filled leaves = tt
   leaves_around k (progress.Durable ack) leaves = due_out_same k ∙ leaves
 
-  pub works_around : (k : ℕ) (result : Result Progress CommitFault) → WorksOnce k at done result → WorksInTurn k before after result
-  works_around k (Err refused) works = record { once = once_around works.once; turn = around.turn; took = around.took; down = tt }
-  works_around k (Ok did) works = record {
+  brings_around : (was now : Flight) (did : Progress) → BringsOn was now (calls_at at) (calls_at done) did → BringsOn was now (calls_at before) (calls_at after) did
+  brings_around was now did = subst (λ (z : ℕ × ℕ). BringsOn was now z.0 z.1 did) (λ i. (around.calls_in i, sym around.calls_out i))
+
+  pub works_around : (was now : Flight) (result : Result Progress CommitFault) → WorksOnce was now at done result → WorksInTurn was now before after result
+  works_around was now (Err refused) works = record { once = once_around works.once; brings = tt; turn = around.turn; took = around.took; down = tt }
+  works_around was now (Ok did) works = record {
     once = once_around works.once;
+    brings = brings_around was now did works.brings;
     turn = around.turn;
     took = around.took;
-    down = (counts_around k works.down.0, leaves_around k did works.down.1);
+    down = (counts_around was.slot works.down.0, leaves_around was.slot did works.down.1);
   }
 
   starts_around : (contents : Contents) (did : Beginning) → (AllIdle (past_at at).slots → BeginsAlone contents (calls_at at) done did)

@@ -2,8 +2,8 @@
 use Rattle.std.proofs.Common.{◌≡◌, ◌∙◌, ℕ, false, Some, None, refl, sym, ap}
 use Rattle.sfs_base.proofs.BasicOptions.{some_same}
 use Rattle.sfs_dev.specs.Disk.{View}
-use Rattle.stamp_table.specs.Table.{TableState}
 use Rattle.space_map.specs.Space.{GrantedNumbers}
+use Rattle.stamp_table.specs.Table.{TableState}
 use Rattle.slot_laws.specs.Labels.{OwnTold}
 use Rattle.commit_ledger.specs.View.{number_in}
 use Rattle.disk_box.specs.declared.key.BoxKey.{BoxKey}

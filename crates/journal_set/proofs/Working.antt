@@ -1,23 +1,22 @@
 -- What a core that is at work with the box may note.
-use Rattle.disk_box.specs.Desk.{GoesOnSince, HaveFew}
+use Rattle.std.specs.Prelude.{◌||◌}
 use Rattle.std.proofs.Common.{◌≡◌, ◌∷◌, ◌++◌, ◌*◌, ◌<◌, ◌≤◌, ◌∙◌, ℕ, Bool, [], length, option_map, Option, Some, None, inl, inr, refl, sym, ap, subst, arith, true, false, max}
 use Rattle.sfs_dev.specs.Disk.{View}
-use Rattle.stamp_table.specs.Table.{TableState}
 use Rattle.tree_laws.specs.declared.turns.Turn.{Turn}
-use Rattle.std.specs.Prelude.{◌||◌}
 use Rattle.merge_laws.proofs.Blocks.{same_or_not}
+use Rattle.stamp_table.specs.Table.{TableState}
 use Rattle.slot_laws.specs.declared.label.Label.TheVariants as label
 use Rattle.slot_laws.specs.Labels.{BoxPast, OwnTold, after_label, ends_all, own_label}
 use Rattle.slot_laws.proofs.Basics.{at_same, at_other}
-use Rattle.disk_box.proofs.Frames.{owed_less}
-use Rattle.disk_box.specs.declared.key.BoxKey.{BoxKey}
-use Rattle.disk_box.specs.declared.desk.Desk.{Desk}
-use Rattle.disk_box.specs.Desk.{DeskFits, FaultsFit, FrameFits, open_told, owed_by, owed_of, turn_faults, wait_in}
-use Rattle.disk_box.specs.Slots.{SlotsFit}
-use Rattle.slot_image_laws.specs.Run.{RunFits}
 use Rattle.commit_ledger.specs.Keeps.{LedgerKeeps}
 use Rattle.commit_ledger.specs.View.{open_in}
+use Rattle.slot_image_laws.specs.Run.{RunFits}
+use Rattle.disk_box.specs.Desk.{GoesOnSince, HaveFew, DeskFits, FaultsFit, FrameFits, open_told, owed_by, owed_of, turn_faults, wait_in}
+use Rattle.disk_box.specs.declared.key.BoxKey.{BoxKey}
+use Rattle.disk_box.specs.declared.desk.Desk.{Desk}
+use Rattle.disk_box.specs.Slots.{SlotsFit}
 use Rattle.disk_box.specs.Pens.{PenHand, HoldsBox, past_at, own_at}
+use Rattle.disk_box.proofs.Frames.{owed_less}
 use Rattle.disk_box.proofs.After.{past_fits_at}
 use Rattle.disk_box.proofs.Owes.{owns_own}
 use Rattle.journal_set.specs.Ready.{HasNothingDue}

@@ -1,5 +1,5 @@
 -- How many device calls a commit makes, where no other core's turn at the box comes between.
-use Rattle.std.specs.Prelude.{◌≡◌, ◌+◌, ◌<◌, ◌≤◌, ◌++◌, ℕ, List, [], length, Result, IfOk}
+use Rattle.std.specs.Prelude.{◌≡◌, ◌⊎◌, ◌+◌, ◌<◌, ◌≤◌, ◌++◌, ℕ, true, false, List, [], length, Result, IfOk}
 use Rattle.journal_one.specs.Packed.{Contents}
 use Rattle.stamp_table.specs.declared.event.Event.{Event}
 use Rattle.stamp_table.specs.Events.{event_core}
@@ -43,17 +43,27 @@ abbrev pub LeavesDue : Progress → ℕ → Type 0
 LeavesDue (progress.Durable ack) due = due ≡ 0
 LeavesDue _ due = Unit {0}
 
+-- what a turn does that goes on: it makes a device call, or lets others write first, which it may so often yet; or it says that the slot is filled, which was
+-- not said before
+abbrev pub BringsOn : Flight → Flight → ℕ → ℕ → Progress → Type 0
+BringsOn was now before after progress.Goes = (after ≡ before + 1) ⊎ ((after ≡ before) × (now.patience < was.patience))
+BringsOn was now before after progress.Filled = (after ≡ before) × (was.told ≡ false) × (now.told ≡ true)
+BringsOn was now before after (progress.Durable ack) = after ≡ before
+
 -- A turn of the commit in a slot, while its core has the box: it makes one device call at most, and by so many fewer are due.
-pub record WorksOnce {D : Type 0} (k : ℕ) (before after : PenHand D) (result : Result Progress CommitFault) : Type 0 where
+pub record WorksOnce {D : Type 0} (was now : Flight) (before after : PenHand D) (result : Result Progress CommitFault) : Type 0 where
   pub once : calls_at after ≤ calls_at before + 1
-  pub down : IfOk result (λ did. CountsDown k before after × LeavesDue did (due_at (past_at after) k))
+  pub brings : IfOk result (BringsOn was now (calls_at before) (calls_at after))
+  pub down : IfOk result (λ did. CountsDown was.slot before after × LeavesDue did (due_at (past_at after) was.slot))
 
 -- The same, from outside.
-pub record WorksInTurn {D : Type 0} (k : ℕ) (before after : PenHand D) (result : Result Progress CommitFault) : Type 0 where
+pub record WorksInTurn {D : Type 0} (was now : Flight) (before after : PenHand D) (result : Result Progress CommitFault) : Type 0 where
   pub once : calls_at after ≤ calls_at before + 1
+  pub brings : IfOk result (BringsOn was now (calls_at before) (calls_at after))
   pub turn : GoesAlone before after
   pub took : 0 < length turn.back
-  pub down : IfOk result (λ did. CountsFrom k (past_behind before turn.front) (calls_at before) after × LeavesDue did (due_at (past_at after) k))
+  pub down : IfOk result (λ did.
+      CountsFrom was.slot (past_behind before turn.front) (calls_at before) after × LeavesDue did (due_at (past_at after) was.slot))
 
 -- A commit has begun in a slot, with no device call, and no other slot has one: all calls of its schedule are due.
 pub record IsBegunAlone {D : Type 0} (contents : Contents) (k made : ℕ) (after : PenHand D) : Type 0 where

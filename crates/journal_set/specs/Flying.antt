@@ -2,8 +2,8 @@
 use Rattle.std.specs.Prelude.{◌≡◌, ◌⊎◌, ℕ, Bool, true, false, List, Some, None, Result, Ok, Err}
 use mathlib.Core.List.{IsPrefix}
 use Rattle.sfs_base.specs.Ends.{HasRisen}
-use Rattle.cut_laws.specs.Closure.{Flush}
 use Rattle.tree_laws.specs.declared.turns.Turn.{Turn}
+use Rattle.cut_laws.specs.Closure.{Flush}
 use Rattle.stamp_table.specs.declared.event.Event.{Event}
 use Rattle.slot_laws.specs.declared.label.Label.{Label}
 use Rattle.slot_laws.specs.Labels.{OwnTold, SlotFlight, fsync_told}

@@ -173,7 +173,7 @@ impl<D: Disk + Drop> JournalSet<D> {
         ensures comes { TurnComes flight.old pen.old.view.core (own_at pen.old) (own_at pen.new) result }
         ensures tells { TellsCall (IsOneTurn (flight_labels pen.old.view.core flight.old.commit (flush_of flight.old) result)) pen.old pen.new }
         ensures cause { IfErr result (IsCausedBy pen.new) }
-        ensures counts { WorksInTurn flight.old.slot pen.old pen.new result }
+        ensures counts { WorksInTurn flight.old flight.new pen.old pen.new result }
     {
         self.line.join();
         let mut desk = enter(rt, &self.table, pen);

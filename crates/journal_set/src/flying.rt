@@ -4,9 +4,10 @@ ghost use Rattle.slot_laws.specs.Labels.{owner};
 ghost use Rattle.disk_box.specs.Counting.{CountsDown};
 ghost use Rattle.disk_box.specs.Kind.{HasKind};
 ghost use Rattle.disk_box.specs.declared.kind.Kind.TheVariants as kind;
-ghost use Rattle.disk_box.specs.Pens.{IsAtDesk, PenGoes, WorksAtDesk, own_at, past_at};
+ghost use Rattle.disk_box.specs.Pens.{IsAtDesk, PenGoes, WorksAtDesk, calls_at, own_at, past_at};
 ghost use Rattle.disk_box.specs.Steps.{Steps};
-ghost use Rattle.journal_set.specs.Counting.{WorksOnce};
+ghost use Rattle.journal_set.specs.declared.flying.Progress.TheVariants as progress;
+ghost use Rattle.journal_set.specs.Counting.{BringsOn, WorksOnce};
 ghost use Rattle.journal_set.specs.Flying.{IsCausedBy, IsUnderWay, NotLanded, TurnComes, flight_of, flush_of};
 ghost use Rattle.journal_set.specs.Telling.{TellsAtBox, flight_labels};
 
@@ -60,7 +61,7 @@ pub(crate) fn turn_at<D: Disk + Drop>(
     ensures comes { TurnComes flight.old pen.old.view.core (own_at pen.old) (own_at pen.new) result }
     ensures tells { TellsAtBox (flight_labels pen.old.view.core flight.old.commit (flush_of flight.old) result) pen.old pen.new }
     ensures cause { IfErr result (IsCausedBy pen.new) }
-    ensures counts { WorksOnce flight.old.slot pen.old pen.new result }
+    ensures counts { WorksOnce flight.old flight.new pen.old pen.new result }
 {
     if let Some(turn) = learn(table, pen, desk) {
         let ack = Ack {
@@ -93,7 +94,7 @@ fn advance<D: Disk + Drop>(
     ensures comes { TurnComes flight.old pen.old.view.core (own_at pen.old) (own_at pen.new) result }
     ensures tells { TellsAtBox (flight_labels pen.old.view.core flight.old.commit (flush_of flight.old) result) pen.old pen.new }
     ensures cause { IfErr result (IsCausedBy pen.new) }
-    ensures counts { WorksOnce flight.old.slot pen.old pen.new result }
+    ensures counts { WorksOnce flight.old flight.new pen.old pen.new result }
 {
     match desk.kind_at(flight.slot) {
         Kind::Filling => before_gate(table, pen, desk, flight),
@@ -123,7 +124,7 @@ fn before_gate<D: Disk + Drop>(
     ensures comes { TurnComes flight.old pen.old.view.core (own_at pen.old) (own_at pen.new) result }
     ensures tells { TellsAtBox (flight_labels pen.old.view.core flight.old.commit (flush_of flight.old) result) pen.old pen.new }
     ensures cause { IfErr result (IsCausedBy pen.new) }
-    ensures counts { WorksOnce flight.old.slot pen.old pen.new result }
+    ensures counts { WorksOnce flight.old flight.new pen.old pen.new result }
 {
     match fill_or_seal(table, pen, desk, flight) {
         Ok(progress) => Ok(progress),
@@ -152,7 +153,7 @@ fn open_turn<D: Disk + Drop>(
     ensures comes { TurnComes flight.old pen.old.view.core (own_at pen.old) (own_at pen.new) result }
     ensures tells { TellsAtBox (flight_labels pen.old.view.core flight.old.commit (flush_of flight.old) result) pen.old pen.new }
     ensures cause { IfErr result (IsCausedBy pen.new) }
-    ensures counts { WorksOnce flight.old.slot pen.old pen.new result }
+    ensures counts { WorksOnce flight.old flight.new pen.old pen.new result }
 {
     if !flight.told {
         flight.told = true;
@@ -188,7 +189,7 @@ fn settle_turn<D: Disk + Drop>(
     ensures comes { TurnComes flight.old pen.old.view.core (own_at pen.old) (own_at pen.new) result }
     ensures tells { TellsAtBox (flight_labels pen.old.view.core flight.old.commit (flush_of flight.old) result) pen.old pen.new }
     ensures cause { IfErr result (IsCausedBy pen.new) }
-    ensures counts { WorksOnce flight.old.slot pen.old pen.new result }
+    ensures counts { WorksOnce flight.old flight.new pen.old pen.new result }
 {
     match shut_or_settle(table, pen, desk, flight) {
         Ok(()) => Ok(Progress::Goes),
@@ -215,6 +216,7 @@ fn fill_or_seal<D: Disk + Drop>(
     ensures same { (opened : Bool) → flight_of flight.new opened ≡ flight_of flight.old opened }
     ensures progress { IfOk result NotLanded }
     ensures counts { IfOk result (λ did. CountsDown flight.old.slot pen.old pen.new) }
+    ensures brings { IfOk result (BringsOn flight.old flight.new (calls_at pen.old) (calls_at pen.new)) }
 {
     let core = pen.number();
     if let Some(slot) = own_to_place(desk, core) {
@@ -248,6 +250,7 @@ fn shut_or_settle<D: Disk + Drop>(
     ensures own { own_at pen.new ≡ own_at pen.old }
     ensures same { (opened : Bool) → flight_of flight.new opened ≡ flight_of flight.old opened }
     ensures counts { OnOk result (CountsDown flight.old.slot pen.old pen.new) }
+    ensures brings { OnOk result (BringsOn flight.old flight.new (calls_at pen.old) (calls_at pen.new) progress.Goes) }
 {
     let core = pen.number();
     if let Some(slot) = own_with(desk, core, Kind::Copied) {

@@ -13,7 +13,7 @@ use Rattle.stamp_table.specs.declared.event.Event.TheVariants.{Told}
 use Rattle.slot_laws.specs.declared.label.Label.{Label}
 use Rattle.slot_laws.specs.declared.label.Label.TheVariants as label
 use Rattle.slot_laws.specs.Labels.{OwnTold, nothing_told, own_event, own_from, own_label}
-use Rattle.slot_laws.specs.Telling.{is_halted, is_short, AreOfWork, BoxTurn, IsOfWork, PensGoOn, PensTellTurns, TellTurns, at_box, events_in, labels_by, labels_in, turns_in, turns_told, IsOfFlight, AreOfFlight, IsTurnFor, turn_works, turn_refuses, is_short, turn_reserves, turn_returns, turn_empties, turn_begins, turn_opens, turn_lands, turn_fails, turn_fails_begun, TurnsAreOfOne}
+use Rattle.slot_laws.specs.Telling.{is_halted, is_short, AreOfWork, BoxTurn, IsOfWork, PensGoOn, PensTellTurns, TellTurns, at_box, events_in, labels_by, labels_in, turns_in, turns_told, IsOfFlight, AreOfFlight, IsTurnFor, turn_works, turn_refuses, turn_reserves, turn_returns, turn_empties, turn_begins, turn_opens, turn_lands, turn_fails, turn_fails_begun, TurnsAreOfOne}
 use Rattle.slot_laws.specs.Rules.{IsTurnBy}
 
 -- some events and then others

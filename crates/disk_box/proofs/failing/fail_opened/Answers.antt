@@ -1,7 +1,7 @@
 use Rattle.std.proofs.Common.{◌≤◌, ◌∙◌, Some, refl, sym, ap, subst, arith}
+use Rattle.tree_laws.specs.declared.turns.Turn.{Turn}
 use Rattle.slot_laws.specs.Labels.{OwnTold, after_label}
 use Rattle.slot_laws.specs.declared.label.Label.TheVariants as label
-use Rattle.tree_laws.specs.declared.turns.Turn.{Turn}
 use Rattle.disk_box.specs.Pens.{past_at}
 use Rattle.disk_box.proofs.Failure.{fail_at}
 use Rattle.disk_box.proofs.Frames.{own_after, others_after}

@@ -1,5 +1,4 @@
-use Rattle.std.proofs.Common.{◌<◌, ◌∙◌, None, refl, sym, ap, subst}
-use Rattle.std.proofs.Common.{slice_set}
+use Rattle.std.proofs.Common.{◌<◌, ◌∙◌, None, refl, sym, ap, subst, slice_set}
 use Rattle.slot_laws.specs.Labels.{OwnTold, own_label}
 use Rattle.slot_laws.specs.declared.label.Label.TheVariants as label
 use Rattle.disk_box.specs.Pens.{past_at}

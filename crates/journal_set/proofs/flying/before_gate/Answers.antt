@@ -1,5 +1,6 @@
-use Rattle.std.proofs.Common.{inl, false, sym, subst, Ok}
-use Rattle.disk_box.specs.Pens.{own_at}
+use Rattle.std.proofs.Common.{inl, false, sym, subst, Ok, arith}
+use Rattle.disk_box.specs.Pens.{own_at, past_at}
+use Rattle.disk_box.specs.Counting.{due_at}
 use Rattle.journal_set.specs.Flying.{IsUnderWay, flush_of}
 use Rattle.journal_set.specs.Telling.{flight_labels}
 use Rattle.journal_set.proofs.Aloft.{under_own}
@@ -7,9 +8,6 @@ use Rattle.journal_set.proofs.Failing.{at_of_work, fails_shut, owes_shut, progre
 use Rattle.journal_set.proofs.flying.before_gate.Goals as goal
 use Rattle.journal_set.proofs.Told.{tells_work}
 use Rattle.journal_set.proofs.ToldCommits.{going_is, fails_in_slot}
-use Rattle.std.proofs.Common.{◌≤◌, ◌+◌, arith}
-use Rattle.disk_box.specs.Counting.{due_at}
-use Rattle.disk_box.specs.Pens.{past_at}
 use Rattle.journal_set.proofs.CallsTold.{fail_calls, leaves_none}
 
 pub fill_or_seal-requires-clause-own : goal.fill_or_seal-requires-clause-own
@@ -66,6 +64,7 @@ returns-in-Err-clause-tells g c =
 pub returns-in-Ok-clause-counts : goal.returns-in-Ok-clause-counts
 returns-in-Ok-clause-counts g c = record {
   once = c.in-Ok.ensures.steps.once;
+  brings = c.in-Ok.ensures.brings;
   down = (c.in-Ok.ensures.counts, leaves_none c.in-Ok.progress c.in-Ok.ensures.progress (due_at (past_at c.fill_or_seal.new.pen) c.args.flight.now.slot));
 }
 
@@ -74,4 +73,4 @@ returns-in-Err-clause-counts g c =
     let flight = c.fill_or_seal.new.flight in
     let same = fail_calls c.fill_or_seal.new.pen c.fail_unopened.new.pen flight.commit c.in-Err.faults (flush_of flight) c.fail_unopened.ensures.tells in
     let once = c.in-Err.ensures.steps.once in
-    record { once = omega (arith, same, once); down = tt }
+    record { once = omega (arith, same, once); brings = tt; down = tt }

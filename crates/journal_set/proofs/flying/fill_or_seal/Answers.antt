@@ -37,4 +37,5 @@ returns-in_ok-sync_all g c =
       same = λ opened. refl;
       progress = tt;
       counts = c.in_ok-sync_all.ensures.counts slot (inl filled);
+      brings = inl c.in_ok-sync_all.ensures.calls;
     }

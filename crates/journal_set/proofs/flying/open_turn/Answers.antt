@@ -1,4 +1,4 @@
-use Rattle.std.proofs.Common.{inr, false}
+use Rattle.std.proofs.Common.{inl, inr, refl, false, arith}
 use Rattle.disk_box.specs.Pens.{own_at}
 use Rattle.journal_set.specs.Telling.{TellsGoing}
 use Rattle.journal_set.specs.Flying.{flush_of}
@@ -8,7 +8,6 @@ use Rattle.journal_set.proofs.Turned.{goes_twice, opened_under}
 use Rattle.journal_set.proofs.flying.open_turn.Goals as goal
 use Rattle.journal_set.proofs.ToldCommits.{opens_under, fails_opening}
 use Rattle.journal_set.proofs.Told.{tells_nothing}
-use Rattle.std.proofs.Common.{◌≤◌, ◌+◌, arith}
 use Rattle.journal_set.proofs.CallsTold.{fail_begun_calls, still_down}
 
 pub open_one-requires-clause-own : goal.open_one-requires-clause-own
@@ -36,7 +35,7 @@ returns-in-Err-clause-comes g c =
     fails_opened g.D.Disk.view c.args.table.now c.args.pen.now c.open_one.new.pen c.fail_opened.new.pen
     c.in-Err.faults c.args.flight.now c.args.flight.now (opened_under c.args.flight.now false c.args.pen.now.view.core (own_at c.args.pen.now)
     (own_at c.open_one.new.pen) c.requires.under c.open_one.ensures.own) c.in-Err.ensures.steps.goes (inr c.open_one.ensures.own)
-    (λ opened. Rattle.std.proofs.Common.refl) c.fail_opened.ensures.fails
+    (λ opened. refl) c.fail_opened.ensures.fails
 
 pub returns-in-Err-clause-cause : goal.returns-in-Err-clause-cause
 returns-in-Err-clause-cause g c = risen_still g.D.Disk.view c.args.table.now c.args.pen.now c.open_one.new.pen c.open_one.new.desk c.in-Err.faults
@@ -61,14 +60,18 @@ returns-then-not-flight-clause-tells g c =
     tells_nothing c.args.pen.now (TellsGoing c.args.pen.now.view.core c.args.flight.now.commit (flush_of c.args.flight.now)) tt
 
 pub returns-then-not-flight-clause-counts : goal.returns-then-not-flight-clause-counts
-returns-then-not-flight-clause-counts g c = record { once = omega arith; down = (still_down c.args.flight.now.slot c.args.pen.now, tt) }
+returns-then-not-flight-clause-counts g c = record {
+  once = omega arith;
+  brings = (refl, c.if-not-flight.true, refl);
+  down = (still_down c.args.flight.now.slot c.args.pen.now, tt);
+}
 
 pub returns-in-Ok-clause-counts : goal.returns-in-Ok-clause-counts
-returns-in-Ok-clause-counts g c = record { once = c.in-Ok.ensures.steps.once; down = (c.in-Ok.ensures.counts, tt) }
+returns-in-Ok-clause-counts g c = record { once = c.in-Ok.ensures.steps.once; brings = inl c.in-Ok.ensures.calls; down = (c.in-Ok.ensures.counts, tt) }
 
 pub returns-in-Err-clause-counts : goal.returns-in-Err-clause-counts
 returns-in-Err-clause-counts g c =
     let flight = c.args.flight.now in
     let same = fail_begun_calls c.open_one.new.pen c.fail_opened.new.pen flight.commit c.in-Err.faults (flush_of flight) c.fail_opened.ensures.tells in
     let once = c.in-Err.ensures.steps.once in
-    record { once = omega (arith, same, once); down = tt }
+    record { once = omega (arith, same, once); brings = tt; down = tt }

@@ -1,4 +1,4 @@
-use Rattle.std.proofs.Common.{inl, true, sym, subst}
+use Rattle.std.proofs.Common.{inl, true, sym, subst, arith}
 use Rattle.journal_set.specs.Flying.{IsUnderWay, flush_of}
 use Rattle.journal_set.specs.Telling.{TellsGoing}
 use Rattle.journal_set.proofs.Failing.{at_of_work, fails_opened, owes_opened, risen_still, still_learned}
@@ -6,7 +6,6 @@ use Rattle.journal_set.proofs.Turned.{goes_twice}
 use Rattle.journal_set.proofs.flying.settle_turn.Goals as goal
 use Rattle.journal_set.proofs.Told.{tells_work}
 use Rattle.journal_set.proofs.ToldCommits.{fails_working}
-use Rattle.std.proofs.Common.{◌≤◌, ◌+◌, arith}
 use Rattle.journal_set.proofs.CallsTold.{fail_begun_calls}
 
 pub fail_opened-requires-clause-learned : goal.fail_opened-requires-clause-learned
@@ -53,11 +52,11 @@ returns-in-Err-clause-tells g c =
     c.shut_or_settle.ensures.same c.in-Err.ensures.steps.goes c.in-Err.ensures.steps.tells c.shut_or_settle.ensures.own c.fail_opened.ensures.tells
 
 pub returns-in-Ok-clause-counts : goal.returns-in-Ok-clause-counts
-returns-in-Ok-clause-counts g c = record { once = c.in-Ok.ensures.steps.once; down = (c.in-Ok.ensures.counts, tt) }
+returns-in-Ok-clause-counts g c = record { once = c.in-Ok.ensures.steps.once; brings = c.in-Ok.ensures.brings; down = (c.in-Ok.ensures.counts, tt) }
 
 pub returns-in-Err-clause-counts : goal.returns-in-Err-clause-counts
 returns-in-Err-clause-counts g c =
     let flight = c.shut_or_settle.new.flight in
     let same = fail_begun_calls c.shut_or_settle.new.pen c.fail_opened.new.pen flight.commit c.in-Err.faults (flush_of flight) c.fail_opened.ensures.tells in
     let once = c.in-Err.ensures.steps.once in
-    record { once = omega (arith, same, once); down = tt }
+    record { once = omega (arith, same, once); brings = tt; down = tt }

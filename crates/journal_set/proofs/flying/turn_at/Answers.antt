@@ -1,18 +1,16 @@
-use Rattle.std.proofs.Common.{inr, sym, subst}
+use Rattle.std.proofs.Common.{◌∙◌, inr, sym, subst, ap, arith, refl}
 use Rattle.tree_laws.specs.declared.turns.TurnAct.TheVariants as act
-use Rattle.disk_box.specs.Pens.{PenHand, own_at}
+use Rattle.slot_laws.specs.Labels.{BoxPast}
+use Rattle.slot_laws.specs.declared.label.Label.TheVariants as label
+use Rattle.disk_box.specs.Pens.{PenHand, own_at, calls_at}
+use Rattle.disk_box.specs.Counting.{due_at}
+use Rattle.disk_box.proofs.StepsTold.{no_call_told, once_told}
 use Rattle.journal_set.specs.Flying.{IsUnderWay, flush_of}
 use Rattle.journal_set.specs.Telling.{TellsAtBox, TellsOf, flight_labels}
+use Rattle.journal_set.specs.Counting.{WorksOnce}
 use Rattle.journal_set.proofs.Failing.{owes_some}
 use Rattle.journal_set.proofs.flying.turn_at.Goals as goal
 use Rattle.journal_set.proofs.ToldCommits.{lands_under, halts_told}
-use Rattle.std.proofs.Common.{◌≤◌, ◌+◌, ◌∙◌, ap, arith}
-use Rattle.slot_laws.specs.Labels.{BoxPast}
-use Rattle.slot_laws.specs.declared.label.Label.TheVariants as label
-use Rattle.disk_box.specs.Counting.{due_at}
-use Rattle.disk_box.specs.Pens.{calls_at}
-use Rattle.disk_box.proofs.StepsTold.{once_told}
-use Rattle.journal_set.specs.Counting.{WorksOnce}
 use Rattle.journal_set.proofs.CallsTold.{halt_calls, landed_due, learned_down}
 
 pub halt-faults-requires-clause-room : goal.halt-faults-requires-clause-room
@@ -48,6 +46,7 @@ returns-in-Some-clause-counts g c =
     let tells = c.in-Some.ensures.tells in
     record {
       once = once_told pen after (label.Learned turn) tells;
+      brings = no_call_told pen after (label.Learned turn) tells refl;
       down = (
         learned_down slot pen after turn tells,
         ap (λ (p : BoxPast). due_at p slot) tells.past
@@ -61,9 +60,9 @@ returns-then-is_some-clause-counts g c =
     let flight = c.args.flight.now in
     let same = halt_calls c.learn.new.pen c.halt-faults.new.pen flight.commit (flush_of flight) c.halt-faults.ensures.tells in
     let none = ap (λ (h : PenHand g.row.D.Denot). calls_at h) c.in_default.ensures.none.0 in
-    record { once = omega (arith, same, none); down = tt }
+    record { once = omega (arith, same, none); brings = tt; down = tt }
 
 pub returns-clause-counts : goal.returns-clause-counts
 returns-clause-counts g c =
     let flight = c.args.flight.now in
-    subst (λ (h : PenHand g.row.D.Denot). WorksOnce flight.slot h c.advance.new.pen c.advance.result) c.in_default.ensures.none.0 c.advance.ensures.counts
+    subst (λ (h : PenHand g.row.D.Denot). WorksOnce flight c.advance.new.flight h c.advance.new.pen c.advance.result) c.in_default.ensures.none.0 c.advance.ensures.counts

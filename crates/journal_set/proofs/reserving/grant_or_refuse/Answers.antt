@@ -1,4 +1,7 @@
 use Rattle.std.proofs.Common.{◌≡◌, ◌*◌, ◌<◌, ◌≤◌, ◌∙◌, ◌∷◌, MatchOption, None, sym, ap, subst, arith, refl, []}
+use Rattle.space_map.specs.Space.{shortage}
+use Rattle.space_map.specs.declared.fault.SpaceFault.{SpaceFault}
+use Rattle.space_map.specs.declared.fault.SpaceFault.TheVariants.{NoMemory as WantsMemory}
 use Rattle.tree_laws.specs.Tree.{TreeState}
 use Rattle.tree_laws.specs.declared.turns.TurnAct.TheVariants as act
 use Rattle.stamp_table.specs.declared.event.Event.{Event}
@@ -12,9 +15,6 @@ use Rattle.disk_box.specs.declared.desk.Desk.{Desk}
 use Rattle.disk_box.specs.Pens.{PenHand, TellsLabel, WorksAtDesk, past_at, own_at}
 use Rattle.disk_box.proofs.NotedRules.{granted_rule, short_rule}
 use Rattle.disk_box.proofs.StepsTold.{tells_both}
-use Rattle.space_map.specs.Space.{shortage}
-use Rattle.space_map.specs.declared.fault.SpaceFault.{SpaceFault}
-use Rattle.space_map.specs.declared.fault.SpaceFault.TheVariants.{NoMemory as WantsMemory}
 use Rattle.journal_set.specs.Grants.{grant_from}
 use Rattle.journal_set.specs.Telling.{TellsAtBox, TellsOf, TellsNothing}
 use Rattle.journal_set.proofs.Lacking.{finds_short}

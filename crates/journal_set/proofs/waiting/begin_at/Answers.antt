@@ -1,6 +1,7 @@
 use Rattle.std.proofs.Common.{◌∙◌, inr, length, sym, ap, subst, arith}
 use Rattle.sfs_base.proofs.BasicOptions.{none_of}
 use Rattle.slot_laws.specs.Telling.{turn_refuses}
+use Rattle.slot_laws.specs.Labels.{fsync_told}
 use Rattle.commit_ledger.specs.View.{number_in}
 use Rattle.disk_box.specs.Pens.{past_at}
 use Rattle.disk_box.proofs.Owners.{owner_is, slots_many, waits_some}
@@ -8,8 +9,6 @@ use Rattle.journal_set.specs.OwnSlots.{NoneIdle}
 use Rattle.journal_set.proofs.Aloft.{works_at}
 use Rattle.journal_set.proofs.Unbegun.{its_reserved, owes_unbegun, some_reserved, unbegun_learned}
 use Rattle.journal_set.proofs.waiting.begin_at.Goals as goal
-use Rattle.std.proofs.Common.{◌≤◌, ◌+◌}
-use Rattle.slot_laws.specs.Labels.{fsync_told}
 use Rattle.journal_set.proofs.CallsTold.{halt_calls}
 
 pub unreachable-requires : goal.unreachable-requires

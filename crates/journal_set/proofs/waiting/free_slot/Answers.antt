@@ -14,7 +14,6 @@ use Rattle.journal_set.proofs.Unbegun.{no_flight_told, owes_unbegun, unbegun_lea
 use Rattle.journal_set.proofs.waiting.free_slot.Goals as goal
 use Rattle.journal_set.proofs.Told.{tells_work, tells_failing, tells_nothing}
 use Rattle.journal_set.proofs.ToldCommits.{at_through}
-use Rattle.std.proofs.Common.{◌≤◌, ◌+◌}
 use Rattle.journal_set.proofs.CallsTold.{fail_calls}
 
 pub unreachable-requires : goal.unreachable-requires

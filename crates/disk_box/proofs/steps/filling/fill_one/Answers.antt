@@ -1,5 +1,6 @@
-use Rattle.std.proofs.Common.{refl, subst}
 use Rattle.std.specs.Vec.{with_item}
+use Rattle.std.proofs.Common.{refl, subst}
+use Rattle.slot_laws.specs.declared.label.Label.TheVariants as label
 use Rattle.disk_box.specs.declared.desk.Slot.{Slot}
 use Rattle.disk_box.specs.declared.kind.Kind.TheVariants as kind
 use Rattle.disk_box.specs.Calls.{WritesNext}
@@ -7,7 +8,6 @@ use Rattle.disk_box.proofs.AtSlots.{kind_read, slot_read}
 use Rattle.disk_box.proofs.CountSteps.{fill_counts}
 use Rattle.disk_box.proofs.WriteSteps.{called_for, fill_large, fill_may, fill_steps}
 use Rattle.disk_box.proofs.steps.filling.fill_one.Goals as goal
-use Rattle.slot_laws.specs.declared.label.Label.TheVariants as label
 use Rattle.disk_box.proofs.StepsTold.{call_told, on_ok}
 
 pub fill-result-requires-clause-large : goal.fill-result-requires-clause-large

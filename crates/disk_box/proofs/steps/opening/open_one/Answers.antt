@@ -1,10 +1,11 @@
-use Rattle.std.proofs.Common.{◌∷◌, ◌++◌, ◌∙◌, [], ap, arith, refl, subst}
 use Rattle.std.specs.Vec.{with_item}
+use Rattle.std.proofs.Common.{◌∷◌, ◌++◌, ◌∙◌, [], ap, arith, refl, subst}
 use Rattle.std.proofs.lemmas.List.{length-set}
 use Rattle.std.proofs.lemmas.Option.{slice_get_within}
 use Rattle.tree_laws.specs.declared.turns.TurnAct.TheVariants as act
 use Rattle.slot_laws.specs.Labels.{fsync_told}
 use Rattle.slot_laws.specs.Rules.{IsTurnBy}
+use Rattle.slot_laws.specs.declared.label.Label.TheVariants as label
 use Rattle.disk_box.specs.declared.kind.Kind.TheVariants as kind
 use Rattle.disk_box.specs.Pens.{past_at}
 use Rattle.disk_box.proofs.AtSlots.{kind_read}
@@ -12,7 +13,6 @@ use Rattle.disk_box.proofs.GateOpened.{AreOpening, faults_calm, open_large, open
 use Rattle.disk_box.proofs.SlotSteps.{called_beside}
 use Rattle.disk_box.proofs.WriteSteps.{called_for}
 use Rattle.disk_box.proofs.steps.opening.open_one.Goals as goal
-use Rattle.slot_laws.specs.declared.label.Label.TheVariants as label
 use Rattle.disk_box.proofs.CountSteps.{open_counts}
 use Rattle.disk_box.proofs.StepsTold.{call_told, on_ok}
 

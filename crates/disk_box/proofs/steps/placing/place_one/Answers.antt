@@ -1,12 +1,12 @@
-use Rattle.std.proofs.Common.{refl, subst}
 use Rattle.std.specs.Vec.{with_item}
+use Rattle.std.proofs.Common.{refl, subst}
+use Rattle.slot_laws.specs.declared.label.Label.TheVariants as label
 use Rattle.disk_box.specs.declared.desk.Slot.{Slot}
 use Rattle.disk_box.specs.declared.kind.Kind.TheVariants as kind
 use Rattle.disk_box.specs.Calls.{WritesNext}
 use Rattle.disk_box.proofs.AtSlots.{kind_read, slot_read}
 use Rattle.disk_box.proofs.WriteSteps.{called_for, place_large, place_may, place_steps}
 use Rattle.disk_box.proofs.steps.placing.place_one.Goals as goal
-use Rattle.slot_laws.specs.declared.label.Label.TheVariants as label
 use Rattle.disk_box.proofs.StepsTold.{call_told, on_ok}
 
 pub place-result-requires-clause-large : goal.place-result-requires-clause-large

@@ -1,5 +1,5 @@
-use Rattle.std.proofs.Common.{refl}
 use Rattle.std.specs.Vec.{with_item}
+use Rattle.std.proofs.Common.{refl}
 use Rattle.slot_laws.specs.declared.label.Label.TheVariants as label
 use Rattle.disk_box.specs.declared.kind.Kind.TheVariants as kind
 use Rattle.disk_box.proofs.AtSlots.{kind_read}

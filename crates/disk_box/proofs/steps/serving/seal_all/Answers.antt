@@ -1,8 +1,8 @@
-use Rattle.std.proofs.Common.{◌<◌, arith, subst, sym}
+use Rattle.std.proofs.Common.{arith}
 use Rattle.std.proofs.lemmas.Option.{slice_get_within}
 use Rattle.disk_box.specs.declared.kind.Kind.TheVariants as kind
 use Rattle.disk_box.proofs.AtSlots.{kind_read}
-use Rattle.disk_box.proofs.Sealing.{passed_over, sealed_next, sealed_start}
+use Rattle.disk_box.proofs.Sealing.{passed_over, sealed_next}
 use Rattle.disk_box.proofs.steps.serving.seal_all.Goals as goal
 use Rattle.disk_box.proofs.steps.serving.seal_all.Goals.{in-Filled, in_default}
 

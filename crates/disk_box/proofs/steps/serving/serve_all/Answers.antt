@@ -1,4 +1,4 @@
-use Rattle.std.proofs.Common.{◌+◌, ◌≤◌, ◌∙◌, arith}
+use Rattle.std.proofs.Common.{◌+◌, ◌∙◌, arith}
 use Rattle.disk_box.proofs.ServedAll.{all_served, served_more}
 use Rattle.disk_box.proofs.SyncSteps.{count_kept, goes_both}
 use Rattle.disk_box.proofs.steps.serving.serve_all.Goals as goal

@@ -1,5 +1,5 @@
-use Rattle.std.proofs.Common.{refl, subst}
 use Rattle.std.specs.Vec.{with_item}
+use Rattle.std.proofs.Common.{refl, subst}
 use Rattle.disk_box.specs.declared.kind.Kind.TheVariants as kind
 use Rattle.disk_box.specs.Kind.{HasKind}
 use Rattle.disk_box.proofs.AtSlots.{kind_read}

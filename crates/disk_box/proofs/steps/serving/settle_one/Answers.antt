@@ -1,11 +1,11 @@
-use Rattle.std.proofs.Common.{◌≡◌, ◌∙◌, Some, arith, slice_set, refl, subst, sym, ap}
 use Rattle.std.specs.Vec.{with_item}
+use Rattle.std.proofs.Common.{◌≡◌, ◌∙◌, Some, arith, slice_set, refl, subst, sym, ap}
 use Rattle.std.proofs.lemmas.List.{length-set}
 use Rattle.std.proofs.lemmas.Option.{slice_get_within}
-use Rattle.commit_ledger.specs.Calls.{MayEnd, PaysDebt}
-use Rattle.commit_ledger.specs.View.{number_in}
 use Rattle.slot_laws.specs.Labels.{owner}
 use Rattle.slot_laws.specs.declared.label.Label.TheVariants as label
+use Rattle.commit_ledger.specs.Calls.{MayEnd, PaysDebt}
+use Rattle.commit_ledger.specs.View.{number_in}
 use Rattle.disk_box.specs.declared.kind.Kind.TheVariants as kind
 use Rattle.disk_box.specs.Pens.{past_at}
 use Rattle.disk_box.proofs.AtSlots.{kind_read}

@@ -1,10 +1,10 @@
-use Rattle.std.proofs.Common.{refl}
 use Rattle.std.specs.Vec.{with_item}
+use Rattle.std.proofs.Common.{refl}
+use Rattle.slot_laws.specs.declared.label.Label.TheVariants as label
 use Rattle.disk_box.specs.declared.kind.Kind.TheVariants as kind
 use Rattle.disk_box.proofs.AtSlots.{kind_read}
 use Rattle.disk_box.proofs.WriteSteps.{called_for, shut_large, shut_may, shut_steps}
 use Rattle.disk_box.proofs.steps.shutting.shut_one.Goals as goal
-use Rattle.slot_laws.specs.declared.label.Label.TheVariants as label
 use Rattle.disk_box.proofs.StepsTold.{call_told, on_ok}
 
 pub shut-result-requires-clause-large : goal.shut-result-requires-clause-large

@@ -1,10 +1,10 @@
 use Rattle.std.proofs.Common.{◌∙◌, Err, Ok, refl, sym, ap, subst, length}
+use Rattle.slot_laws.specs.declared.label.Label.TheVariants as label
 use Rattle.disk_box.specs.declared.desk.Desk.{Desk}
 use Rattle.disk_box.specs.Serving.{IsServing}
-use Rattle.slot_laws.specs.declared.label.Label.TheVariants as label
 use Rattle.disk_box.proofs.CountSteps.{sync_counts}
 use Rattle.disk_box.proofs.StepsTold.{call_told}
-use Rattle.disk_box.proofs.SyncSteps.{AreSealed, served_steps, sync_failed, synced_now, syncs_as}
+use Rattle.disk_box.proofs.SyncSteps.{served_steps, sync_failed, synced_now, syncs_as}
 use Rattle.disk_box.proofs.steps.syncing.sync_all.Goals as goal
 
 pub returns-in-Err-clause-steps : goal.returns-in-Err-clause-steps

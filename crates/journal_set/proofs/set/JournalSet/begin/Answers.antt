@@ -1,19 +1,18 @@
 use Rattle.std.proofs.Common.{◌<◌, ◌∙◌, Ok, Some, refl, sym, ap, subst, Err}
+use Rattle.journal_one.specs.Packed.{Contents}
 use Rattle.slot_laws.specs.Labels.{OwnTold, fsync_told}
-use Rattle.disk_box.specs.Pens.{own_at}
+use Rattle.disk_box.specs.Pens.{own_at, calls_at}
+use Rattle.disk_box.proofs.Served.{goes_still}
 use Rattle.journal_set.specs.declared.beginning.Writing.{Writing}
 use Rattle.journal_set.specs.declared.waiting.Beginning.{Beginning}
 use Rattle.journal_set.specs.Committing.{BeginComes, WaitsToBegin}
 use Rattle.journal_set.specs.Telling.{TellsCall, IsOneTurn, OfReserved, TellsWork, begin_labels, written_in}
+use Rattle.journal_set.specs.Counting.{BeginsAlone, BeginsScheduled}
 use Rattle.journal_set.proofs.BegunAround.{begins_still, fails_still, written_still}
 use Rattle.journal_set.proofs.Turned.{core_kept, goes_twice}
 use Rattle.journal_set.proofs.set.JournalSet.begin.Goals as goal
 use Rattle.journal_set.proofs.Told.{calls_more, calls_none, call_through}
-use Rattle.disk_box.proofs.Served.{goes_still}
 use Rattle.journal_set.proofs.ToldCalls.{begun_told}
-use Rattle.journal_one.specs.Packed.{Contents}
-use Rattle.disk_box.specs.Pens.{calls_at}
-use Rattle.journal_set.specs.Counting.{BeginsAlone, BeginsScheduled}
 use Rattle.journal_set.proofs.Alone.{begun_alone, found_first, found_more}
 
 pub begin_turn-requires-clause-room : goal.begin_turn-requires-clause-room

@@ -2,6 +2,7 @@ use Rattle.std.proofs.Common.{◌∙◌, None, ap, sym, subst, ℕ}
 use Rattle.cut_laws.specs.Closure.{Flush}
 use Rattle.slot_laws.specs.declared.label.Label.TheVariants as label
 use Rattle.slot_laws.specs.Labels.{OwnTold, fsync_told}
+use Rattle.slot_laws.specs.Telling.{labels_in}
 use Rattle.disk_box.specs.declared.key.BoxKey.{BoxKey}
 use Rattle.disk_box.specs.Pens.{PenHand, own_at}
 use Rattle.journal_set.specs.Beginning.{CanBeWritten}
@@ -12,7 +13,6 @@ use Rattle.journal_set.proofs.Parts.{grant_more}
 use Rattle.journal_set.proofs.Turned.{core_kept, goes_twice}
 use Rattle.journal_set.proofs.set.JournalSet.begin_turn.Goals as goal
 use Rattle.journal_set.proofs.Told.{tells_around}
-use Rattle.slot_laws.specs.Telling.{labels_in}
 use Rattle.journal_set.proofs.AmidTurns.{turn_amid}
 use Rattle.journal_set.proofs.TiedCommits.{beginnings_tell}
 use Rattle.journal_set.proofs.TurnAlone.{around, begins_around}

@@ -1,20 +1,19 @@
-use Rattle.std.proofs.Common.{◌≡◌, ◌<◌, ◌∙◌, ℕ, Some, Err, sym, ap, subst}
+use Rattle.std.proofs.Common.{◌≡◌, ◌<◌, ◌∙◌, ◌++◌, ℕ, Some, Err, sym, ap, subst, IfOk}
+use Rattle.journal_one.specs.Packed.{Contents}
 use Rattle.cut_laws.specs.Closure.{Flush}
 use Rattle.slot_laws.specs.Labels.{fsync_told}
+use Rattle.slot_laws.specs.Telling.{events_in}
 use Rattle.disk_box.specs.declared.turns.Fsync.{Fsync}
 use Rattle.disk_box.specs.Pens.{own_at}
 use Rattle.journal_set.specs.Committing.{Commits}
 use Rattle.journal_set.specs.Telling.{TellsReturn}
+use Rattle.journal_set.specs.Counting.{MakesScheduled}
 use Rattle.journal_set.proofs.Committed.{begin_commits, begun_under, ends_commits, packed_can_be_written}
 use Rattle.journal_set.proofs.Turned.{core_kept, goes_twice}
 use Rattle.journal_set.proofs.set.JournalSet.commit.Goals as goal
 use Rattle.journal_set.proofs.ToldCommits.{only_of}
 use Rattle.journal_set.proofs.ToldCalls.{unbegun_told, commit_told}
 use Rattle.journal_set.proofs.Alone.{commit_counts}
-use Rattle.journal_set.specs.Counting.{MakesScheduled}
-use Rattle.slot_laws.specs.Telling.{events_in}
-use Rattle.journal_one.specs.Packed.{Contents}
-use Rattle.std.proofs.Common.{◌++◌, IfOk}
 
 pub give_back-requires-clause-grant : goal.give_back-requires-clause-grant
 give_back-requires-clause-grant g c κs within = c.requires.grant ∙ ap Some (sym c.in-Err.ensures.back)

@@ -1,19 +1,16 @@
-use Rattle.std.proofs.Common.{sym, subst}
-use Rattle.journal_set.specs.Flying.{IsUnderWay, flush_of}
+use Rattle.std.proofs.Common.{◌∙◌, sym, subst, refl, ap}
+use Rattle.slot_laws.specs.Telling.{labels_in}
+use Rattle.slot_laws.specs.Labels.{OwnTold}
+use Rattle.disk_box.specs.Pens.{own_at}
+use Rattle.journal_set.specs.Flying.{IsUnderWay, flush_of, flight_of}
 use Rattle.journal_set.specs.Telling.{TellsCall, IsOneTurn, flight_labels}
 use Rattle.journal_set.proofs.BegunAround.{cause_err}
 use Rattle.journal_set.proofs.Turned.{core_kept, goes_twice, turn_around}
 use Rattle.journal_set.proofs.set.JournalSet.commit_turn.Goals as goal
 use Rattle.journal_set.proofs.Told.{tells_around}
-use Rattle.std.proofs.Common.{refl}
-use Rattle.slot_laws.specs.Telling.{labels_in}
 use Rattle.journal_set.proofs.AmidTurns.{turn_amid}
 use Rattle.journal_set.proofs.TiedCommits.{flights_tell}
 use Rattle.journal_set.proofs.TurnAlone.{around, works_around}
-use Rattle.journal_set.specs.Flying.{flight_of}
-use Rattle.std.proofs.Common.{◌∙◌, ap}
-use Rattle.slot_laws.specs.Labels.{OwnTold}
-use Rattle.disk_box.specs.Pens.{own_at}
 
 pub turn_at-result-requires-clause-under : goal.turn_at-result-requires-clause-under
 turn_at-result-requires-clause-under g c κs within =
@@ -64,4 +61,4 @@ returns-clause-counts g c =
     works_around pen at done c.leave.new.pen (around c.self.inside.table pen at done c.leave.new.pen c.enter-desk.ensures.takes c.enter-desk.ensures.goes
     c.enter-desk.ensures.at.holds c.turn_at-result.ensures.goes c.turn_at-result.ensures.at.holds (labels_in told.one) told.mine_is
     (turn_amid at.view.core tells.number tells.flush told.one tells.is) c.leave.ensures.goes c.enter-desk.ensures.mine c.leave.ensures.seen
-    c.leave.ensures.mine) flight.slot c.turn_at-result.result c.turn_at-result.ensures.counts
+    c.leave.ensures.mine) flight c.turn_at-result.new.flight c.turn_at-result.result c.turn_at-result.ensures.counts

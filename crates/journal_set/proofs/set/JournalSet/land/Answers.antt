@@ -1,19 +1,17 @@
-use Rattle.std.proofs.Common.{◌<◌, ◌∙◌, false, Ok, Err, sym, subst}
-use Rattle.disk_box.specs.Pens.{own_at}
+use Rattle.std.proofs.Common.{◌<◌, ◌∙◌, ◌≡◌, false, Ok, Err, sym, subst, ap}
+use Rattle.slot_laws.specs.Labels.{SlotFlight}
+use Rattle.disk_box.specs.Pens.{own_at, calls_at, past_at}
+use Rattle.disk_box.specs.Counting.{CountsFrom, due_at}
 use Rattle.journal_set.specs.declared.flying.Progress.{Progress}
 use Rattle.journal_set.specs.Flying.{GoesOn, LastTurn, TurnComes, flush_of}
 use Rattle.journal_set.specs.Telling.{TellsGoing, TellsCall, IsOneTurn, flight_labels, TellsLanding, TellsEnded}
 use Rattle.journal_set.specs.declared.flying.Progress.TheVariants as progress
+use Rattle.journal_set.specs.Counting.{LeavesDue, past_behind}
 use Rattle.journal_set.proofs.Turned.{core_kept, ends_so, goes_on_both, goes_twice, under_again, under_told}
 use Rattle.journal_set.proofs.set.JournalSet.land.Goals as goal
 use Rattle.journal_set.proofs.Told.{calls_more, calls_last}
 use Rattle.journal_set.proofs.ToldCalls.{flight_told}
-use Rattle.std.proofs.Common.{◌≡◌, ap}
-use Rattle.slot_laws.specs.Labels.{SlotFlight}
-use Rattle.disk_box.specs.Counting.{CountsFrom, due_at}
-use Rattle.disk_box.specs.Pens.{calls_at, past_at}
-use Rattle.journal_set.specs.Counting.{LeavesDue, past_behind}
-use Rattle.journal_set.proofs.Alone.{down_first, down_more, lands_so}
+use Rattle.journal_set.proofs.Alone.{down_more, lands_so}
 
 pub commit_turn-requires-clause-room : goal.commit_turn-requires-clause-room
 commit_turn-requires-clause-room g c κs within = subst (λ n. 0 < n) (sym c.loop.invariant.room) c.requires.room
