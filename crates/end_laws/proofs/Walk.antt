@@ -87,7 +87,7 @@ module _ (named : Numbered) (layout : Layout) (before moment : ℕ) (first : Spa
 
       flying_there : FliesAs (here.owns core.0) turn → IsThere
       flying_there flies = elim (at.fits.flights.each core.0 flies.flight flies.flies).is [
-        | inr landed ↦ absurd (none_some (sym rule.looked ∙ landed.waits_is))
+        | inr landed ↦ absurd (none_some (sym rule.learned ∙ landed.waits_is))
         | inl flying ↦
             let aloft = at.opens.aloft flies.flight.slot flying.work flying.there flying.aloft in
             there_by aloft.one aloft.among

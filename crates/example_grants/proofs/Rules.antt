@@ -74,7 +74,7 @@ may_reserve = (
   (
     (refl, record { calm = refl; next = refl; none = refl; rests = refl; unmoved = one_unmoved (λ _. no_last) 1 0 refl }),
     (
-      (refl, record { own = refl; no_open = λ e. cc; no_durable = λ e. cc; looked = refl; now = record { rises = omega arith; counts = refl } }),
+      (refl, record { own = refl; no_open = λ e. cc; no_durable = λ e. cc; learned = refl; now = record { rises = omega arith; counts = refl } }),
       (
         (refl, tt),
         (
@@ -84,7 +84,7 @@ may_reserve = (
             (
               (
                 refl,
-                record { own = refl; no_open = λ e. cc; no_durable = λ e. cc; looked = refl; now = record { rises = omega arith; counts = refl } },
+                record { own = refl; no_open = λ e. cc; no_durable = λ e. cc; learned = refl; now = record { rises = omega arith; counts = refl } },
               ),
               ((refl, tt), tt),
             ),
