@@ -54,19 +54,19 @@ module _ {D : Type 0} (view : D → View) (nodes : ℕ) (disk left : D) (begun :
     (pens : List (PenHand D)) (put : PutTogether view nodes disk left begun tabled set pens) where
   -- the volume
   abbrev pub volume_of : Volume D
-  volume_of = record { shared = tabled.shared; set = set; basis = basis_for begun.layout nodes; cores = begun.layout.cores; room = tabled.room }
+  volume_of = record { shared = tabled.table; set = set; basis = basis_for begun.layout nodes; cores = begun.layout.cores; room = tabled.room }
 
   site : IsSiteMount nodes begun
   site = site_of nodes begun (view disk) (view left) put.was
 
   -- it has the layout's cores
-  made_cores : length tabled.shared.first.made ≡ begun.layout.cores
+  made_cores : length tabled.table.first.made ≡ begun.layout.cores
   made_cores = ap (λ (t : TreeState). length t.made) put.table.first ∙ site.cores
 
-  table_cores : tabled.shared.cores ≡ begun.layout.cores
+  table_cores : tabled.table.cores ≡ begun.layout.cores
   table_cores = put.table.counted ∙ made_cores
 
-  basis_is : IsBasisOf tabled.shared (basis_for begun.layout nodes)
+  basis_is : IsBasisOf tabled.table (basis_for begun.layout nodes)
   basis_is = record {
     table = record {
       sound = subst Rattle.tree_laws.specs.Laws.IsSoundTree (sym put.table.first) site.sound;
@@ -80,7 +80,7 @@ module _ {D : Type 0} (view : D → View) (nodes : ℕ) (disk left : D) (begun :
     };
   }
 
-  site_is : IsSite tabled.shared (basis_for begun.layout nodes).nodes begun.layout.cores set.table.given
+  site_is : IsSite tabled.table (basis_for begun.layout nodes).nodes begun.layout.cores set.table.given
   site_is = record {
     table = basis_is.table;
     cores_are = sym made_cores;

@@ -16,7 +16,7 @@ put-requires c = put_there c.args.nodes c.args.core.now c.take_bucket.new.core
 
 pub returns : goal.returns
 returns c = subst (λ (n : ℕ). PutsBucket c.args.nodes c.args.move_.now.directory n
-    (without_row c.args.move_.now.name) c.args.core.now c.put.new.core) c.bucket_of-number.ensures
-    (puts_bucket c.args.nodes c.args.core.now c.take_bucket.new.core c.put.new.core c.args.move_.now.directory c.bucket_of-number.result
+    (without_row c.args.move_.now.name) c.args.core.now c.put_bucket.new.core) c.bucket_of-number.ensures
+    (puts_bucket c.args.nodes c.args.core.now c.take_bucket.new.core c.put_bucket.new.core c.args.move_.now.directory c.bucket_of-number.result
     (without_row c.args.move_.now.name) c.take_bucket.ensures.held.0 (cell.Bucket c.without_row-bucket.result) c.take_bucket.result.value
-    c.without_row-bucket.result.value c.take_bucket.ensures.bucket refl c.without_row-bucket.ensures c.take_bucket.ensures.held.1 c.put.ensures)
+    c.without_row-bucket.result.value c.take_bucket.ensures.bucket refl c.without_row-bucket.ensures c.take_bucket.ensures.held.1 c.put_bucket.ensures)

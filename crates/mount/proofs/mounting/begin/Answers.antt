@@ -43,7 +43,7 @@ returns-clause-volume g c =
     }
     in
     subst (λ (z : ℕ × Basis). IsVolume (record {
-      shared = c.in-Ok.tabled.shared;
+      shared = c.in-Ok.tabled.table;
       set = c.in-Ok-new.made.0;
       basis = z.1;
       cores = z.0;
@@ -55,7 +55,7 @@ returns-clause-volume g c =
 
 -- what the cores and pens are with which it begins
 begins_with : (g : given.Over) (c : goal.After-drop-tree-inside-8 g) → BeginsWith (record {
-  shared = c.in-Ok.tabled.shared;
+  shared = c.in-Ok.tabled.table;
   set = c.in-Ok-new.made.0;
   basis = c.basis_of-basis.result;
   cores = c.layout.inside.cores;
@@ -76,7 +76,7 @@ begins_with g c =
 pub returns-clause-workers : goal.returns-clause-workers
 returns-clause-workers g c =
     subst (AreWorkers (record {
-      shared = c.in-Ok.tabled.shared;
+      shared = c.in-Ok.tabled.table;
       set = c.in-Ok-new.made.0;
       basis = c.basis_of-basis.result;
       cores = c.layout.inside.cores;
