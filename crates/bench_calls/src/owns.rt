@@ -52,9 +52,7 @@ fn call_alone<R: Threads + Wait + Sync + Clock>(rt: &R, alloc: Global, owns: &mu
         4,
         &|_number, own: &mut Own|
             requires { IsReadyAlone own.now }
-        {
-            work(rt, alloc, &own.table, &mut own.worker, case, &there)
-        },
+        { work(rt, alloc, &own.table, &mut own.worker, case, &there) },
     );
 }
 

@@ -89,13 +89,7 @@ fn call_once<R: Wait>(
 }
 
 // Makes the calls of a thread, each as it comes.
-fn call_each<R: Wait>(
-    rt: &R,
-    alloc: Global,
-    table: &TreeTable,
-    worker: &mut Worker,
-    case: Case,
-)
+fn call_each<R: Wait>(rt: &R, alloc: Global, table: &TreeTable, worker: &mut Worker, case: Case)
     requires core { IsBetweenCalls table.now worker.old.core }
     ensures between { IsBetweenCalls table.now worker.new.core }
 {
@@ -117,13 +111,7 @@ fn call_each<R: Wait>(
 }
 
 // Makes the calls that were made before.
-fn call_made<R: Wait>(
-    rt: &R,
-    alloc: Global,
-    table: &TreeTable,
-    worker: &mut Worker,
-    case: Case,
-)
+fn call_made<R: Wait>(rt: &R, alloc: Global, table: &TreeTable, worker: &mut Worker, case: Case)
     requires core { IsBetweenCalls table.now worker.old.core }
     requires readable { All IsReadable worker.old.calls.items }
     ensures between { IsBetweenCalls table.now worker.new.core }

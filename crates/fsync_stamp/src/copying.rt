@@ -6,7 +6,9 @@ ghost use Rattle.mem_calls.specs.Held.{HoldsDirectory, file_held};
 ghost use Rattle.fsync_stamp.specs.Copying.{ComesToCopy, copied_as};
 
 use crate::stamp::{STAMP_CELLS, is_dead_fault, stamp_held};
-use mem_calls::{TreeTable, bucket_in, directory_fault_in, file_in, hold_directory, hold_part, is_standing};
+use mem_calls::{
+    TreeTable, bucket_in, directory_fault_in, file_in, hold_directory, hold_part, is_standing,
+};
 use mem_files::FileBytes;
 use mem_values::FileCore;
 use sfs_base::{Gate, NodeId, Stamp};

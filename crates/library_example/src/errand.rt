@@ -1,6 +1,5 @@
 // What a worker does on a volume.
 ghost use Rattle.tree_laws.specs.Step.{IsReadable};
-ghost use Rattle.mem_calls.specs.Table.{nodes_of};
 ghost use Rattle.workers.specs.Works.{Rests};
 ghost use Rattle.mount.specs.Serving.{ServesAt};
 ghost use Rattle.mount.specs.Workers.{AgreeAt};
@@ -28,7 +27,7 @@ fn ask<R: Wait, D: Disk + Drop>(
     worker: &mut Worker<Pen<D>>,
     asked: Call,
 ) -> Result<Reply, Trouble>
-    requires site { ServesAt site.now.table.now site.now.set.now (nodes_of site.now.table.now) site.now.cores }
+    requires site { ServesAt site.now.table.now site.now.set.now site.now.cores }
     requires rest { Rests site.now.table.now (AgreeAt site.now.table.now site.now.set.now) worker.old }
     requires readable { IsReadable asked }
     ensures { IsBack site.now.table.now site.now.set.now worker.old worker.new }
@@ -68,7 +67,7 @@ pub fn run_errand<R: Wait, D: Disk + Drop>(
     worker: &mut Worker<Pen<D>>,
     number: usize,
 ) -> Result<String, Trouble>
-    requires site { ServesAt site.now.table.now site.now.set.now (nodes_of site.now.table.now) site.now.cores }
+    requires site { ServesAt site.now.table.now site.now.set.now site.now.cores }
     requires rest { Rests site.now.table.now (AgreeAt site.now.table.now site.now.set.now) worker.old }
     ensures { IsBack site.now.table.now site.now.set.now worker.old worker.new }
 {

@@ -1,6 +1,5 @@
 // A volume from its mount to its end.
 ghost use Rattle.std.specs.Prelude.{◌≡◌, ◌≤◌, IfOk, length};
-ghost use Rattle.mem_calls.specs.Table.{nodes_of};
 ghost use Rattle.workers.specs.Works.{Rests};
 ghost use Rattle.mount.specs.Serving.{ServesAt};
 ghost use Rattle.mount.specs.Workers.{AgreeAt};
@@ -39,7 +38,7 @@ fn run_all<R: Threads + Wait + Sync, D: Disk + Drop + Sync>(
     site: &FlushSite<D>,
     seats: &mut [Seat<D>],
 )
-    requires site { ServesAt site.now.table.now site.now.set.now (nodes_of site.now.table.now) site.now.cores }
+    requires site { ServesAt site.now.table.now site.now.set.now site.now.cores }
     requires rest { AllRest site.now.table.now site.now.set.now seats.old }
     ensures count { length seats.new ≡ length seats.old }
     ensures back { AllAreBack site.now.table.now site.now.set.now seats.old seats.new }
@@ -49,7 +48,7 @@ fn run_all<R: Threads + Wait + Sync, D: Disk + Drop + Sync>(
         seats,
         MOST_THREADS,
         &|number, seat: &mut Seat<D>|
-            requires { ServesAt site.now.table.now site.now.set.now (nodes_of site.now.table.now) site.now.cores
+            requires { ServesAt site.now.table.now site.now.set.now site.now.cores
                 × Rests site.now.table.now (AgreeAt site.now.table.now site.now.set.now) seat.now.worker }
             ensures { IsBack site.entry.now.table.now site.entry.now.set.now seat.entry.now.worker seat.exit.now.worker }
         { seat.read = Some(run_errand(rt, alloc, site, &mut seat.worker, number)) },

@@ -16,10 +16,15 @@ pub struct TreeTable {
 }
 
 impl Model for TreeTable {
+    ghost use Rattle.sfs_base.specs.Lists.{roomy_code};
+    ghost use Rattle.disk_nodes.specs.contracts.old.OldEntry as old;
+    ghost use Rattle.stamp_table.specs.Table.{table_code};
     ghost use Rattle.mem_values.specs.Start.{FileState};
     ghost use Rattle.mem_calls.specs.Table.{IsFileTable, AreNumbersOf};
 
     ghost Value = { FileState };
+
+    ghost coded = { table_code (roomy_code old.the_row.coded) };
 
     ghost view = { λ t. t.shared };
 

@@ -1,7 +1,6 @@
 // A call of a worker of a volume, by itself.
 ghost use Rattle.tree_laws.specs.Step.{IsReadable};
 ghost use Rattle.stamp_table.specs.Table.{IsSameCore};
-ghost use Rattle.mem_calls.specs.Table.{nodes_of};
 ghost use Rattle.workers.specs.Keeping.{AddsOrRefused};
 ghost use Rattle.workers.specs.Serving.{HasServed, MayServe};
 ghost use Rattle.workers.specs.Works.{Rests};
@@ -30,7 +29,7 @@ pub fn make_call<R: Wait, D: Disk + Drop, G: Gate>(
     asked: Call,
     gate: &G,
 ) -> Result<Reply, NoMemory>
-    requires site { ServesAt site.now.table.now site.now.set.now (nodes_of site.now.table.now) site.now.cores }
+    requires site { ServesAt site.now.table.now site.now.set.now site.now.cores }
     requires rest { Rests site.now.table.now (AgreeAt site.now.table.now site.now.set.now) worker.old }
     requires readable { IsReadable asked }
     ensures made { AddsOrRefused asked worker.old.core worker.new.core result }
@@ -38,7 +37,7 @@ pub fn make_call<R: Wait, D: Disk + Drop, G: Gate>(
     ensures same { IsSameCore worker.old.core worker.new.core }
 {
     let serve_one = |core: &mut FileCore, pen: &mut Pen<D>, node: NodeId| -> Reply
-        requires { ServesAt site.now.table.now site.now.set.now (nodes_of site.now.table.now) site.now.cores × MayServe site.now.table.now (AgreeAt site.now.table.now site.now.set.now) core.now pen.now }
+        requires { ServesAt site.now.table.now site.now.set.now site.now.cores × MayServe site.now.table.now (AgreeAt site.now.table.now site.now.set.now) core.now pen.now }
         ensures { HasServed site.entry.now.table.now (AgreeAt site.entry.now.table.now site.entry.now.set.now) node result core.entry.now core.exit.now pen.exit.now }
     { serve(rt, alloc, site, core, pen, node, gate) };
     let by: FlushBy<FlushSite<D>, Pen<D>, PairAgreement<D>, _> = FlushBy {

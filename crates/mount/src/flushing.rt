@@ -1,6 +1,5 @@
 // An fsync of a core of a volume reaches its disk.
 ghost use Rattle.std.specs.Prelude.{◌≡◌, ℕ, All, length, is_err};
-ghost use Rattle.mem_calls.specs.Table.{nodes_of};
 ghost use Rattle.script.specs.Ready.{LinesMayRun};
 ghost use Rattle.workers.specs.Serving.{HasServed, MayServe};
 ghost use Rattle.workers.specs.Works.{Rests, WorksEach, any_refused};
@@ -44,7 +43,7 @@ pub fn serve<R: Wait, D: Disk + Drop, G: Gate>(
     node: NodeId,
     gate: &G,
 ) -> Reply
-    requires site { ServesAt site.now.table.now site.now.set.now (nodes_of site.now.table.now) site.now.cores }
+    requires site { ServesAt site.now.table.now site.now.set.now site.now.cores }
     requires may { MayServe site.now.table.now (AgreeAt site.now.table.now site.now.set.now) core.old pen.old }
     ensures { HasServed site.now.table.now (AgreeAt site.now.table.now site.now.set.now) node result core.old core.new pen.new }
 {
@@ -60,7 +59,7 @@ fn run_at<R: Threads + Wait + Sync, D: Disk + Drop + Sync, G: Gate>(
     phase: &Phase,
     gate: &G,
 ) -> Result<(), NoMemory>
-    requires site { ServesAt site.now.table.now site.now.set.now (nodes_of site.now.table.now) site.now.cores }
+    requires site { ServesAt site.now.table.now site.now.set.now site.now.cores }
     requires rest { All (Rests site.now.table.now (AgreeAt site.now.table.now site.now.set.now)) workers.old }
     requires ready { LinesMayRun phase.now }
     ensures count { length workers.new ≡ length workers.old }
@@ -68,7 +67,7 @@ fn run_at<R: Threads + Wait + Sync, D: Disk + Drop + Sync, G: Gate>(
     ensures refused { is_err result ≡ any_refused workers.new }
 {
     let serve_one = |core: &mut FileCore, pen: &mut Pen<D>, node: NodeId| -> Reply
-        requires { ServesAt site.now.table.now site.now.set.now (nodes_of site.now.table.now) site.now.cores × MayServe site.now.table.now (AgreeAt site.now.table.now site.now.set.now) core.now pen.now }
+        requires { ServesAt site.now.table.now site.now.set.now site.now.cores × MayServe site.now.table.now (AgreeAt site.now.table.now site.now.set.now) core.now pen.now }
         ensures { HasServed site.entry.now.table.now (AgreeAt site.entry.now.table.now site.entry.now.set.now) node result core.entry.now core.exit.now pen.exit.now }
     { serve(rt, alloc, site, core, pen, node, gate) };
     let by: FlushBy<FlushSite<D>, Pen<D>, PairAgreement<D>, _> = FlushBy {

@@ -74,10 +74,7 @@ fn agrees<R: Wait + Abort>(
 {
     let call = some(rt, call_of(alloc, asked));
     let due = got(rt, tree.step(CoreId(0), &call));
-    let reply = some(
-        rt,
-        ask(rt, alloc, table, core, asked, &NoGate),
-    );
+    let reply = some(rt, ask(rt, alloc, table, core, asked, &NoGate));
     holds(rt, reply.equals(&due));
     reply
 }

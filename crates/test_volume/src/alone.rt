@@ -1,6 +1,5 @@
 // A file's fsync by the call for files of which their core has seen an inode, with ample memory.
 ghost use Rattle.stamp_table.specs.Table.{IsBetweenCalls};
-ghost use Rattle.mem_calls.specs.Table.{nodes_of};
 ghost use Rattle.journal_set.specs.Ready.{IsReady};
 ghost use Rattle.fsync_dir.specs.Site.{ToldAsReserved};
 ghost use Rattle.workers.specs.Works.{Rests};
@@ -35,7 +34,7 @@ fn flushed_alone<R: Wait>(
     pen: &mut Pen<Memory>,
     node: NodeId,
 ) -> Option<Reply>
-    requires site { ServesAt site.now.table.now site.now.set.now (nodes_of site.now.table.now) site.now.cores }
+    requires site { ServesAt site.now.table.now site.now.set.now site.now.cores }
     requires between { IsBetweenCalls site.now.table.now core.old }
     requires ready { IsReady site.now.set.now pen.old }
     requires agree { ToldAsReserved core.old pen.old }
@@ -56,7 +55,7 @@ fn assert_flushed_alone<R: Wait + Abort>(
     site: &FlushSite<Memory>,
     worker: &mut Worker<Pen<Memory>>,
 )
-    requires site { ServesAt site.now.table.now site.now.set.now (nodes_of site.now.table.now) site.now.cores }
+    requires site { ServesAt site.now.table.now site.now.set.now site.now.cores }
     requires rest { Rests site.now.table.now (AgreeAt site.now.table.now site.now.set.now) worker.old }
 {
     let asked = Call::Make {

@@ -1,6 +1,5 @@
 // Calls of one worker of a volume, each by itself and with ample memory.
 ghost use Rattle.tree_laws.specs.Step.{IsReadable};
-ghost use Rattle.mem_calls.specs.Table.{nodes_of};
 ghost use Rattle.workers.specs.Works.{Rests};
 ghost use Rattle.mount.specs.Serving.{ServesAt};
 ghost use Rattle.mount.specs.Volume.{IsVolume};
@@ -36,15 +35,12 @@ pub(crate) fn assert_answered<R: Wait + Abort>(
     asked: Call,
     due: &Reply,
 )
-    requires site { ServesAt site.now.table.now site.now.set.now (nodes_of site.now.table.now) site.now.cores }
+    requires site { ServesAt site.now.table.now site.now.set.now site.now.cores }
     requires rest { Rests site.now.table.now (AgreeAt site.now.table.now site.now.set.now) worker.old }
     requires readable { IsReadable asked }
     ensures { Rests site.now.table.now (AgreeAt site.now.table.now site.now.set.now) worker.new }
 {
-    let is = got(
-        rt,
-        make_call(rt, alloc, site, worker, asked, &NoGate),
-    );
+    let is = got(rt, make_call(rt, alloc, site, worker, asked, &NoGate));
     holds(rt, is.equals(due));
 }
 
@@ -72,7 +68,7 @@ fn assert_errand<R: Wait + Abort>(
     site: &FlushSite<Memory>,
     worker: &mut Worker<Pen<Memory>>,
 )
-    requires site { ServesAt site.now.table.now site.now.set.now (nodes_of site.now.table.now) site.now.cores }
+    requires site { ServesAt site.now.table.now site.now.set.now site.now.cores }
     requires rest { Rests site.now.table.now (AgreeAt site.now.table.now site.now.set.now) worker.old }
 {
     let asked = Call::Make {

@@ -51,12 +51,7 @@ fn cross_once<R: Wait>(
 }
 
 // Makes all its calls, or those up to one that is refused memory.
-pub(crate) fn cross_often<R: Wait>(
-    rt: &R,
-    alloc: Global,
-    table: &TreeTable,
-    core: &mut FileCore,
-)
+pub(crate) fn cross_often<R: Wait>(rt: &R, alloc: Global, table: &TreeTable, core: &mut FileCore)
     requires core { IsBetweenCalls table.now core.old }
     ensures same { IsSameCore core.old core.new }
     ensures between { IsBetweenCalls table.now core.new }

@@ -34,13 +34,7 @@ pub(crate) enum Task<'a> {
 }
 
 // Makes so many calls that a core draws, or until one is refused memory.
-fn draw_often<R: Wait>(
-    rt: &R,
-    alloc: Global,
-    table: &TreeTable,
-    core: &mut FileCore,
-    count: u32,
-)
+fn draw_often<R: Wait>(rt: &R, alloc: Global, table: &TreeTable, core: &mut FileCore, count: u32)
     requires core { IsBetweenCalls table.now core.old }
     ensures same { IsSameCore core.old core.new }
     ensures between { IsBetweenCalls table.now core.new }
@@ -55,13 +49,7 @@ fn draw_often<R: Wait>(
 }
 
 // One core does what it has to.
-fn work<R: Wait>(
-    rt: &R,
-    alloc: Global,
-    table: &TreeTable,
-    core: &mut FileCore,
-    task: &Task,
-)
+fn work<R: Wait>(rt: &R, alloc: Global, table: &TreeTable, core: &mut FileCore, task: &Task)
     requires core { IsBetweenCalls table.now core.old }
     ensures same { IsSameCore core.old core.new }
     ensures between { IsBetweenCalls table.now core.new }

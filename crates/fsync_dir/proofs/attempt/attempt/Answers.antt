@@ -1,12 +1,12 @@
-use Rattle.std.proofs.Common.{Option, ◌∙◌, ap, subst}
 use Rattle.std.specs.Prelude.{MatchOption}
+use Rattle.std.proofs.Common.{◌∙◌, Option, ap, subst}
 use Rattle.sfs_base.specs.declared.numbers.Stamp.{Stamp}
+use Rattle.mem_calls.specs.Table.{nodes_of}
 use Rattle.fsync_catch.specs.Catch.{LetsAllGo}
 use Rattle.fsync_dir.specs.Attempt.{HoldsFileAlone, attempt_at}
 use Rattle.fsync_dir.proofs.Coming.{no_turn_yet, untold_serves}
 use Rattle.fsync_dir.proofs.Served.{attempt_since, no_turn_agrees}
 use Rattle.fsync_dir.proofs.Waiting.{copied_on, ends_since, mine_on, waiting_on, waits_again}
-use Rattle.mem_calls.specs.Table.{nodes_of}
 use Rattle.fsync_dir.proofs.attempt.attempt.Goals as goal
 
 pub commit_alone-requires-clause-agree : goal.commit_alone-requires-clause-agree

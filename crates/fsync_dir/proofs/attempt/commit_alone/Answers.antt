@@ -1,12 +1,12 @@
 use Rattle.std.proofs.Common.{◌∙◌, ap, subst, sym}
 use Rattle.mem_values.specs.Start.{FileHand, given_by}
 use Rattle.mem_calls.specs.Working.{IsWorking}
+use Rattle.mem_calls.specs.Table.{nodes_of}
 use Rattle.fsync_dir.specs.Answering.{EndsUntold}
+use Rattle.fsync_dir.specs.Attempt.{attempt_at}
 use Rattle.fsync_dir.proofs.Coming.{no_turn_yet, untold_serves}
 use Rattle.fsync_dir.proofs.Served.{no_turn_agrees}
 use Rattle.fsync_dir.proofs.Tried.{has_drafted_alone, one_held, planned_alone}
-use Rattle.fsync_dir.specs.Attempt.{attempt_at}
-use Rattle.mem_calls.specs.Table.{nodes_of}
 use Rattle.fsync_dir.proofs.attempt.commit_alone.Goals as goal
 
 pub planned_alone-requires-clause-holds : goal.planned_alone-requires-clause-holds

@@ -7,7 +7,7 @@ use Rattle.mount.proofs.flushing.serve.Goals as goal
 pub flush-requires-clause-site : goal.flush-requires-clause-site
 flush-requires-clause-site g c κs within =
     let site = c.args.site.now in
-    site_at site.table.now site.set.now (nodes_of site.table.now) site.cores c.args.pen.now c.requires.site c.requires.may.agree.ready
+    site_at site.table.now site.set.now site.cores c.args.pen.now c.requires.site c.requires.may.agree.ready
 
 pub flush-requires-clause-agree : goal.flush-requires-clause-agree
 flush-requires-clause-agree g c κs within =
@@ -32,6 +32,7 @@ returns g c =
       adds = flushed.answers.adds;
       between = flushed.answers.between;
       same = flushed.answers.same;
-      agree = served_agrees site.set.now at c.flush.result c.requires.site c.requires.may.agree
+      agree = served_agrees site.set.now at c.flush.result
+          (site_at site.table.now site.set.now site.cores c.args.pen.now c.requires.site c.requires.may.agree.ready) c.requires.site.few c.requires.may.agree
           (record { answers = flushed.answers; ready = flushed.ready; goes = flushed.goes; comes = flushed.comes });
     }
