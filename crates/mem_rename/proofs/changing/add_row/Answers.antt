@@ -10,8 +10,8 @@ use Rattle.mem_rename.specs.Ready.{bucket_or}
 use Rattle.mem_rename.proofs.HeldChanges.{puts_bucket, put_or_same}
 use Rattle.mem_rename.proofs.changing.add_row.Goals as goal
 
-pub put-requires : goal.put-requires
-put-requires c = put_there c.args.nodes c.args.core.now c.take_bucket-taken.new.core
+pub put_bucket-requires : goal.put_bucket-requires
+put_bucket-requires c = put_there c.args.nodes c.args.core.now c.take_bucket-taken.new.core
     (id.Bucket c.args.move_.now.to_directory c.bucket_of-number.result) c.take_bucket-taken.ensures.held.0
     (some_first as_bucket (value_held c.args.nodes c.args.core.now.held (id.Bucket c.args.move_.now.to_directory c.bucket_of-number.result))
     (rw c.bucket_of-number.ensures c.requires.held)) c.take_bucket-taken.ensures.held.1
