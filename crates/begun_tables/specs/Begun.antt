@@ -15,7 +15,6 @@ use Rattle.mem_values.specs.declared.fact.Fact.{Fact}
 use Rattle.mem_values.specs.Places.{node_count}
 use Rattle.mem_begin.specs.Beginning.{CanBeginTable}
 use Rattle.mem_calls.specs.Outcome.{StandsBehind}
-use Rattle.mem_calls.specs.Table.{IsFileTable}
 
 -- Whether a directory may get rows: it is one, and it is alive.
 abbrev pub may_hold_rows : TreeState → ℕ → Bool
@@ -50,12 +49,6 @@ pub record BeginsTable (tree : TreeState) (first share cores : ℕ) : Type 0 whe
   pub first_is : tree.first ≡ first
   pub share_is : tree.share ≡ share
   pub cores_are : length tree.made ≡ cores
-
--- A table that began with such a tree.
-pub record IsCallTable (t : FileState) (first share nodes : ℕ) : Type 0 where
-  pub table : IsFileTable t nodes
-  pub first_is : t.first.first ≡ first
-  pub share_is : t.first.share ≡ share
 
 -- A core has made a call: it has one entry more, which stands in the history with the reply of the tree before it.
 pub record HasMade (t : FileState) (c : Call) (reply : Reply) (before after : FileHand) : Type 0 where

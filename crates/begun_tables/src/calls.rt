@@ -2,12 +2,11 @@
 ghost use Rattle.std.specs.Prelude.{◌<◌, ◌≤◌};
 ghost use Rattle.tree_laws.specs.Step.{IsReadable};
 ghost use Rattle.stamp_table.specs.Table.{IsBetweenCalls, IsSameCore};
-ghost use Rattle.mem_calls.specs.Table.{IsFileTable, AreNumbersOf};
-ghost use Rattle.begun_tables.specs.Begun.{ComesToReply, IsCallTable};
+ghost use Rattle.begun_tables.specs.Begun.{ComesToReply};
 
-use mem_calls::{Numbers, call};
+use mem_calls::{TreeTable, call};
 use mem_rename::{Move, RENAME_CELLS, rename};
-use mem_values::{FileCore, FileShared};
+use mem_values::FileCore;
 use sfs_base::Gate;
 use std::alloc::Global;
 use std::sync::Wait;
@@ -17,22 +16,18 @@ use tree_laws::{Call, Reply};
 fn make_ready<R: Wait, G: Gate>(
     rt: &R,
     alloc: Global,
-    shared: &FileShared,
+    table: &TreeTable,
     core: &mut FileCore,
-    nodes: u32,
-    numbers: Numbers,
     asked: Call,
     gate: &G,
 ) -> Option<Reply>
-    requires table { IsFileTable shared.now nodes }
-    requires core { IsBetweenCalls shared.now core.old }
-    requires numbers { AreNumbersOf shared.now.first numbers }
+    requires core { IsBetweenCalls table.now core.old }
     requires readable { IsReadable asked }
     requires spare { 0 < core.old.spare }
     requires room { RENAME_CELLS ≤ core.old.room }
-    ensures made { ComesToReply shared.now asked core.old core.new result }
+    ensures made { ComesToReply table.now asked core.old core.new result }
     ensures same { IsSameCore core.old core.new }
-    ensures between { IsBetweenCalls shared.now core.new }
+    ensures between { IsBetweenCalls table.now core.new }
 {
     match asked {
         Call::Rename {
@@ -47,10 +42,10 @@ fn make_ready<R: Wait, G: Gate>(
                 to_directory,
                 to_name,
             };
-            rename(rt, alloc, shared, core, nodes, mv, gate).ok()
+            rename(rt, alloc, table, core, mv, gate).ok()
         }
         Call::Fsync { node: _ } => None,
-        other => call(rt, alloc, shared, core, nodes, numbers, other, gate).ok(),
+        other => call(rt, alloc, table, core, other, gate).ok(),
     }
 }
 
@@ -58,20 +53,17 @@ fn make_ready<R: Wait, G: Gate>(
 pub fn make_call<R: Wait, G: Gate>(
     rt: &R,
     alloc: Global,
-    shared: &FileShared,
+    table: &TreeTable,
     core: &mut FileCore,
-    nodes: u32,
-    numbers: Numbers,
     asked: Call,
     gate: &G,
 ) -> Option<Reply>
-    requires table { IsCallTable shared.now numbers.first numbers.share nodes }
-    requires core { IsBetweenCalls shared.now core.old }
+    requires core { IsBetweenCalls table.now core.old }
     requires readable { IsReadable asked }
-    ensures made { ComesToReply shared.now asked core.old core.new result }
+    ensures made { ComesToReply table.now asked core.old core.new result }
     ensures same { IsSameCore core.old core.new }
-    ensures between { IsBetweenCalls shared.now core.new }
+    ensures between { IsBetweenCalls table.now core.new }
 {
     core.reserve(1, RENAME_CELLS).ok()?;
-    make_ready(rt, alloc, shared, core, nodes, numbers, asked, gate)
+    make_ready(rt, alloc, table, core, asked, gate)
 }

@@ -1,9 +1,8 @@
 -- Threads that can begin.
-use Rattle.std.specs.Prelude.{ℕ, ◌+◌, All}
+use Rattle.std.specs.Prelude.{All}
 use Rattle.tree_laws.specs.Step.{IsReadable}
 use Rattle.stamp_table.specs.Table.{IsBetweenCalls}
 use Rattle.mem_values.specs.Start.{FileState}
-use Rattle.begun_tables.specs.Begun.{IsCallTable}
 use Rattle.bench_calls.specs.declared.workers.Worker.{Worker}
 use Rattle.bench_calls.specs.declared.owns.Own.{Own}
 
@@ -12,7 +11,6 @@ pub record IsReady (t : FileState) (worker : Worker) : Type 0 where
   pub between : IsBetweenCalls t worker.core
   pub readable : All IsReadable worker.calls.items
 
--- A thread can begin at its own table, of so many numbers.
-pub record IsReadyAlone (first share : ℕ) (own : Own) : Type 0 where
-  pub table : IsCallTable own.shared first share (first + share)
-  pub ready : IsReady own.shared own.worker
+-- A thread can begin at its own table.
+abbrev pub IsReadyAlone : Own → Type 0
+IsReadyAlone own = IsReady own.table own.worker

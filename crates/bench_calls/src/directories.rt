@@ -1,12 +1,12 @@
 // Directories that one core makes, on a table with room for as many nodes as cores may make.
 ghost use Rattle.std.specs.Prelude.{◌≡◌, All, IfSome};
 ghost use Rattle.stamp_table.specs.Table.{IsBetweenCalls};
-ghost use Rattle.begun_tables.specs.Begun.{BeginsTable, IsCallTable};
+ghost use Rattle.begun_tables.specs.Begun.{BeginsTable};
 
 use crate::loads::{Load, own_name};
 use begun_tables::{begun, make_call, root_alone};
-use mem_calls::Numbers;
-use mem_values::{FileCore, FileShared};
+use mem_calls::TreeTable;
+use mem_values::FileCore;
 use sfs_base::{CoreId, Kind, NoGate, NodeId};
 use sfs_tree::Tree;
 use std::alloc::Global;
@@ -28,10 +28,8 @@ pub(crate) struct Figures {
 /// How many directories a core may make at most.
 pub(crate) const MOST: u32 = 65_536;
 
-// The number of the first of them, and how many numbers the table has.
+// The number of the first of them.
 const FIRST: u32 = 4;
-
-const NODES: u32 = 65_540;
 
 // How many directories lie in the root; the others lie in these.
 const UPPER: u32 = 64;
@@ -47,13 +45,12 @@ fn root_of_one(alloc: Global) -> Option<Tree>
 fn make_one<R: Wait>(
     rt: &R,
     alloc: Global,
-    shared: &FileShared,
+    table: &TreeTable,
     core: &mut FileCore,
     round: u32,
 ) -> Option<Reply>
-    requires table { IsCallTable shared.now FIRST MOST NODES }
-    requires core { IsBetweenCalls shared.now core.old }
-    ensures between { IsBetweenCalls shared.now core.new }
+    requires core { IsBetweenCalls table.now core.old }
+    ensures between { IsBetweenCalls table.now core.new }
 {
     let dir = if round < UPPER {
         NodeId(0)
@@ -65,28 +62,23 @@ fn make_one<R: Wait>(
         name: own_name(alloc, Load::Creations, CoreId(0), round)?,
         kind: Kind::Directory,
     };
-    let numbers = Numbers {
-        first: FIRST,
-        share: MOST,
-    };
-    make_call(rt, alloc, shared, core, NODES, numbers, call, &NoGate)
+    make_call(rt, alloc, table, core, call, &NoGate)
 }
 
 // Makes so many directories, and counts those that were made.
 fn make_many<R: Wait>(
     rt: &R,
     alloc: Global,
-    shared: &FileShared,
+    table: &TreeTable,
     core: &mut FileCore,
     count: u32,
     done: &AtomicU64,
 )
-    requires table { IsCallTable shared.now FIRST MOST NODES }
-    requires core { IsBetweenCalls shared.now core.old }
+    requires core { IsBetweenCalls table.now core.old }
 {
     let mut made = 0u64;
     for round in 0..count {
-        match make_one(rt, alloc, shared, core, round) {
+        match make_one(rt, alloc, table, core, round) {
             Some(Reply::Node { .. }) => made = made.saturating_add(1),
             _ => {}
         }
@@ -98,21 +90,20 @@ fn make_many<R: Wait>(
 fn make_all<R: Threads + Wait + Sync>(
     rt: &R,
     alloc: Global,
-    shared: &FileShared,
+    table: &TreeTable,
     cores: &mut [FileCore],
     count: u32,
     done: &AtomicU64,
 )
-    requires table { IsCallTable shared.now FIRST MOST NODES }
-    requires cores { All (IsBetweenCalls shared.now) cores.old }
+    requires cores { All (IsBetweenCalls table.now) cores.old }
 {
     thread::for_each_mut(
         rt,
         cores,
         1,
         &|_number, core: &mut FileCore|
-            requires { IsBetweenCalls shared.now core.now × IsCallTable shared.now FIRST MOST NODES }
-        { make_many(rt, alloc, shared, core, count, done) },
+            requires { IsBetweenCalls table.now core.now }
+        { make_many(rt, alloc, table, core, count, done) },
     );
 }
 
@@ -127,11 +118,11 @@ pub(crate) fn made<R: Threads + Wait + Sync + Clock>(
     let Some(tree) = root_of_one(alloc) else {
         return Ok(None);
     };
-    let Ok((shared, mut hands)) = begun(alloc, &tree, FIRST, MOST, 1) else {
+    let Ok((table, mut hands)) = begun(alloc, &tree, FIRST, MOST, 1) else {
         return Ok(None);
     };
     let done = AtomicU64::new(0);
-    make_all(rt, alloc, &shared, hands.as_mut_slice(), count, &done);
+    make_all(rt, alloc, &table, hands.as_mut_slice(), count, &done);
     let micros = start.elapsed(rt)?.as_micros();
     Ok(Some(Figures {
         done: done.load(Ordering::SeqCst),

@@ -4,9 +4,8 @@ ghost use Rattle.bench_calls.specs.Ready.{IsReadyAlone};
 
 use crate::cases::{Case, THREADS, Tally};
 use crate::runs::begun_table;
-use crate::trees::{FIRST, SHARE};
 use crate::workers::{Worker, begun_worker, work};
-use mem_values::FileShared;
+use mem_calls::TreeTable;
 use std::alloc::Global;
 use std::rt::Clock;
 use std::sync::Wait;
@@ -17,23 +16,23 @@ use std::thread::Threads;
 /// A thread, with a table of its own.
 #[derive(Drop)]
 pub(crate) struct Own {
-    pub(crate) shared: FileShared,
+    pub(crate) table: TreeTable,
     pub(crate) worker: Worker,
 }
 
 // A thread with a table. None, where there is no memory for it.
 fn begun_own(alloc: Global, case: Case, thread: u8) -> Option<Own>
-    ensures { IfSome result (IsReadyAlone FIRST SHARE) }
+    ensures { IfSome result IsReadyAlone }
 {
-    let (shared, mut cores) = begun_table(alloc, case, 1)?;
+    let (table, mut cores) = begun_table(alloc, case, 1)?;
     let core = cores.pop()?;
     let worker = begun_worker(alloc, case, core, thread)?;
-    Some(Own { shared, worker })
+    Some(Own { table, worker })
 }
 
 // All threads, each with a table. None, where there is no memory for them.
 fn begun_owns(alloc: Global, case: Case) -> Option<Vec<Own>>
-    ensures { IfSome result (λ owns. All (IsReadyAlone FIRST SHARE) owns.items) }
+    ensures { IfSome result (λ owns. All IsReadyAlone owns.items) }
 {
     let mut owns = Vec::new(alloc);
     for thread in 0..THREADS {
@@ -44,7 +43,7 @@ fn begun_owns(alloc: Global, case: Case) -> Option<Vec<Own>>
 
 // They call at once.
 fn call_alone<R: Threads + Wait + Sync + Clock>(rt: &R, alloc: Global, owns: &mut [Own], case: Case)
-    requires { All (IsReadyAlone FIRST SHARE) owns.old }
+    requires { All IsReadyAlone owns.old }
 {
     let there = AtomicU64::new(0);
     thread::for_each_mut(
@@ -52,18 +51,8 @@ fn call_alone<R: Threads + Wait + Sync + Clock>(rt: &R, alloc: Global, owns: &mu
         owns,
         4,
         &|_number, own: &mut Own|
-            requires { IsReadyAlone FIRST SHARE own.now }
-        {
-            work(
-                rt,
-                alloc,
-                &own.shared,
-                &mut own.worker,
-                FIRST + SHARE,
-                case,
-                &there,
-            )
-        },
+            requires { IsReadyAlone own.now }
+        { work(rt, alloc, &own.table, &mut own.worker, case, &there) },
     );
 }
 

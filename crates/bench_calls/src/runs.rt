@@ -1,7 +1,6 @@
 // Threads that call at once on one table.
 ghost use Rattle.std.specs.Prelude.{◌≡◌, ◌+◌, ◌*◌, ◌<◌, ◌≤◌, All, IfSome};
 ghost use Rattle.stamp_table.specs.Table.{IsBetweenCalls};
-ghost use Rattle.begun_tables.specs.Begun.{IsCallTable};
 ghost use Rattle.bench_calls.specs.Ready.{IsReady};
 
 use crate::cases::{Case, Place, THREADS, Tally};
@@ -9,7 +8,8 @@ use crate::owns::on_own_tables;
 use crate::trees::{FIRST, SHARE, begun_tree};
 use crate::workers::{Worker, begun_worker, work};
 use begun_tables::begun;
-use mem_values::{FileCore, FileShared};
+use mem_calls::TreeTable;
+use mem_values::FileCore;
 use std::alloc::Global;
 use std::rt::Clock;
 use std::sync::Wait;
@@ -17,23 +17,14 @@ use std::sync::atomic::AtomicU64;
 use std::thread;
 use std::thread::Threads;
 
-// How many nodes a table has of so many cores.
-fn nodes_of(cores: u8) -> u32
-    requires { cores ≤ 4 }
-    ensures { result ≡ FIRST + SHARE * cores }
-{
-    FIRST + SHARE * cores as u32
-}
-
 /// A table with its cores. None, where there is no memory for it.
 pub(crate) fn begun_table(
     alloc: Global,
     case: Case,
     cores: u8,
-) -> Option<(FileShared, Vec<FileCore>)>
+) -> Option<(TreeTable, Vec<FileCore>)>
     requires { (0 < cores) × (cores ≤ 4) }
-    ensures table { IfSome result (λ made. IsCallTable made.0 FIRST SHARE (FIRST + SHARE * cores)) }
-    ensures cores { IfSome result (λ made. All (IsBetweenCalls made.0) made.1.items) }
+    ensures { IfSome result (λ made. All (IsBetweenCalls made.0) made.1.items) }
 {
     let tree = begun_tree(alloc, cores, case.rows)?;
     begun(alloc, &tree, FIRST, SHARE, cores).ok()
@@ -42,12 +33,12 @@ pub(crate) fn begun_table(
 // Threads with the cores of a table. None, where there is no memory for them.
 fn workers_of(
     alloc: Global,
-    shared: &FileShared,
+    table: &TreeTable,
     cores: Vec<FileCore>,
     case: Case,
 ) -> Option<Vec<Worker>>
-    requires { All (IsBetweenCalls shared.now) cores.items }
-    ensures { IfSome result (λ workers. All (IsReady shared.now) workers.items) }
+    requires { All (IsBetweenCalls table.now) cores.items }
+    ensures { IfSome result (λ workers. All (IsReady table.now) workers.items) }
 {
     let mut workers = Vec::with_capacity(alloc, THREADS as usize).ok()?;
     let mut thread = 0u8;
@@ -62,13 +53,11 @@ fn workers_of(
 fn call_all<R: Threads + Wait + Sync + Clock>(
     rt: &R,
     alloc: Global,
-    shared: &FileShared,
+    table: &TreeTable,
     workers: &mut [Worker],
-    nodes: u32,
     case: Case,
 )
-    requires table { IsCallTable shared.now FIRST SHARE nodes }
-    requires workers { All (IsReady shared.now) workers.old }
+    requires workers { All (IsReady table.now) workers.old }
 {
     let there = AtomicU64::new(0);
     thread::for_each_mut(
@@ -76,8 +65,8 @@ fn call_all<R: Threads + Wait + Sync + Clock>(
         workers,
         4,
         &|_number, worker: &mut Worker|
-            requires { IsReady shared.now worker.now × IsCallTable shared.now FIRST SHARE nodes }
-        { work(rt, alloc, shared, worker, nodes, case, &there) },
+            requires { IsReady table.now worker.now }
+        { work(rt, alloc, table, worker, case, &there) },
     );
 }
 
@@ -89,16 +78,9 @@ fn on_one_table<R: Threads + Wait + Sync + Clock>(
     tally: &mut Tally,
 ) -> Option<()> {
     let cores = case.place.threads();
-    let (shared, hands) = begun_table(alloc, case, cores)?;
-    let mut workers = workers_of(alloc, &shared, hands, case)?;
-    call_all(
-        rt,
-        alloc,
-        &shared,
-        workers.as_mut_slice(),
-        nodes_of(cores),
-        case,
-    );
+    let (table, hands) = begun_table(alloc, case, cores)?;
+    let mut workers = workers_of(alloc, &table, hands, case)?;
+    call_all(rt, alloc, &table, workers.as_mut_slice(), case);
     for worker in &workers {
         tally.add(worker.thread.0, worker.done, worker.nanos);
     }

@@ -2,14 +2,12 @@
 ghost use Rattle.std.specs.Prelude.{◌≡◌, All, IfSome};
 ghost use Rattle.tree_laws.specs.Step.{IsReadable};
 ghost use Rattle.stamp_table.specs.Table.{IsBetweenCalls};
-ghost use Rattle.begun_tables.specs.Begun.{IsCallTable};
 
 use crate::cases::Case;
 use crate::loads::call_of;
-use crate::trees::{FIRST, SHARE};
 use begun_tables::make_call;
-use mem_calls::Numbers;
-use mem_values::{FileCore, FileShared};
+use mem_calls::TreeTable;
+use mem_values::FileCore;
 use sfs_base::{CoreId, NoGate, NodeId};
 use std::alloc::Global;
 use std::rt::Clock;
@@ -75,21 +73,15 @@ pub(crate) fn begun_worker(alloc: Global, case: Case, core: FileCore, thread: u8
 fn call_once<R: Wait>(
     rt: &R,
     alloc: Global,
-    shared: &FileShared,
+    table: &TreeTable,
     core: &mut FileCore,
-    nodes: u32,
     call: Call,
 ) -> bool
-    requires table { IsCallTable shared.now FIRST SHARE nodes }
-    requires core { IsBetweenCalls shared.now core.old }
+    requires core { IsBetweenCalls table.now core.old }
     requires readable { IsReadable call }
-    ensures between { IsBetweenCalls shared.now core.new }
+    ensures between { IsBetweenCalls table.now core.new }
 {
-    let numbers = Numbers {
-        first: FIRST,
-        share: SHARE,
-    };
-    match make_call(rt, alloc, shared, core, nodes, numbers, call, &NoGate) {
+    match make_call(rt, alloc, table, core, call, &NoGate) {
         Some(Reply::Error { .. }) => false,
         Some(_) => true,
         None => false,
@@ -97,17 +89,9 @@ fn call_once<R: Wait>(
 }
 
 // Makes the calls of a thread, each as it comes.
-fn call_each<R: Wait>(
-    rt: &R,
-    alloc: Global,
-    shared: &FileShared,
-    worker: &mut Worker,
-    nodes: u32,
-    case: Case,
-)
-    requires table { IsCallTable shared.now FIRST SHARE nodes }
-    requires core { IsBetweenCalls shared.now worker.old.core }
-    ensures between { IsBetweenCalls shared.now worker.new.core }
+fn call_each<R: Wait>(rt: &R, alloc: Global, table: &TreeTable, worker: &mut Worker, case: Case)
+    requires core { IsBetweenCalls table.now worker.old.core }
+    ensures between { IsBetweenCalls table.now worker.new.core }
 {
     for round in 0..case.rounds {
         let Some(call) = call_of(
@@ -120,31 +104,23 @@ fn call_each<R: Wait>(
         ) else {
             return;
         };
-        if call_once(rt, alloc, shared, &mut worker.core, nodes, call) {
+        if call_once(rt, alloc, table, &mut worker.core, call) {
             worker.done = worker.done.saturating_add(1);
         }
     }
 }
 
 // Makes the calls that were made before.
-fn call_made<R: Wait>(
-    rt: &R,
-    alloc: Global,
-    shared: &FileShared,
-    worker: &mut Worker,
-    nodes: u32,
-    case: Case,
-)
-    requires table { IsCallTable shared.now FIRST SHARE nodes }
-    requires core { IsBetweenCalls shared.now worker.old.core }
+fn call_made<R: Wait>(rt: &R, alloc: Global, table: &TreeTable, worker: &mut Worker, case: Case)
+    requires core { IsBetweenCalls table.now worker.old.core }
     requires readable { All IsReadable worker.old.calls.items }
-    ensures between { IsBetweenCalls shared.now worker.new.core }
+    ensures between { IsBetweenCalls table.now worker.new.core }
 {
     for _ in 0..case.rounds {
         let Some(call) = worker.calls.pop() else {
             return;
         };
-        if call_once(rt, alloc, shared, &mut worker.core, nodes, call) {
+        if call_once(rt, alloc, table, &mut worker.core, call) {
             worker.done = worker.done.saturating_add(1);
         }
     }
@@ -164,14 +140,12 @@ fn meet(there: &AtomicU64, threads: u8) {
 pub(crate) fn work<R: Wait + Clock>(
     rt: &R,
     alloc: Global,
-    shared: &FileShared,
+    table: &TreeTable,
     worker: &mut Worker,
-    nodes: u32,
     case: Case,
     there: &AtomicU64,
 )
-    requires table { IsCallTable shared.now FIRST SHARE nodes }
-    requires core { IsBetweenCalls shared.now worker.old.core }
+    requires core { IsBetweenCalls table.now worker.old.core }
     requires readable { All IsReadable worker.old.calls.items }
 {
     meet(there, case.place.threads());
@@ -179,9 +153,9 @@ pub(crate) fn work<R: Wait + Clock>(
         return;
     };
     if case.made {
-        call_made(rt, alloc, shared, worker, nodes, case);
+        call_made(rt, alloc, table, worker, case);
     } else {
-        call_each(rt, alloc, shared, worker, nodes, case);
+        call_each(rt, alloc, table, worker, case);
     }
     if let Ok(time) = start.elapsed(rt) {
         worker.nanos = u64::try_from(time.as_nanos()).unwrap_or(u64::MAX);

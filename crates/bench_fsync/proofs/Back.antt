@@ -26,16 +26,16 @@ module _ {D : Type 0} (volume : Volume D) (workers : List (Worker (PenHand D))) 
   stood low is d = get_or_from_slice_get workers place before d (slice_get-get_or workers place before low ∙ ap Some (sym is))
 
   -- all are back, where the others made no call
-  back : place < length workers → before ≡ slice_index_or workers place before → AreWorkers volume workers → Rests volume.shared (PairAgrees volume) after
+  back : place < length workers → before ≡ slice_index_or workers place before → AreWorkers volume workers → Rests volume.table (PairAgrees volume) after
       → IsSameCore before.core after.core → WorkersAreBack volume workers (slice_set workers place after)
   back low is are rests same k d within = elim (eqb_tells k place) [
     | inl at ↦
         let was : get_or workers k d ≡ before = ap (λ n. get_or workers n d) at.1 ∙ stood low is d in
         let now : get_or (slice_set workers place after) k d ≡ after = get_or-set_at workers place k after d at.1 low in
-        subst (λ (z : Worker (PenHand D) × Worker (PenHand D)). Rests volume.shared (PairAgrees volume) z.1 × IsSameCore z.0.core z.1.core)
+        subst (λ (z : Worker (PenHand D) × Worker (PenHand D)). Rests volume.table (PairAgrees volume) z.1 × IsSameCore z.0.core z.1.core)
         (λ i. (sym was i, sym now i)) (rests, same)
     | inr apart ↦
-        subst (λ (z : Worker (PenHand D)). Rests volume.shared (PairAgrees volume) z × IsSameCore (get_or workers k d).core z.core)
+        subst (λ (z : Worker (PenHand D)). Rests volume.table (PairAgrees volume) z × IsSameCore (get_or workers k d).core z.core)
         (sym (get_or-set_other workers place k after d apart.1))
         (are.rest k d within, record { table = refl; cores = refl; leads = refl; number = refl })
   ]
@@ -56,13 +56,13 @@ module _ {D : Type 0} (volume : Volume D) (workers : List (Worker (PenHand D))) 
 
   -- and they are all workers still
   pub one_again : place < length workers → before ≡ slice_index_or workers place before → AreWorkers volume workers
-      → Rests volume.shared (PairAgrees volume) after → IsSameCore before.core after.core → AreWorkers volume (slice_set workers place after)
+      → Rests volume.table (PairAgrees volume) after → IsSameCore before.core after.core → AreWorkers volume (slice_set workers place after)
   one_again low is are rests same =
       let now : List (Worker (PenHand D)) = slice_set workers place after in
       let is_back = back low is are rests same in
       let long : length now ≡ length workers = length-set workers place after in
       record {
-        all = all_again volume.shared (map core_of workers) (map core_of now) (length-map now core_of ∙ (long ∙ sym (length-map workers core_of)))
+        all = all_again volume.table (map core_of workers) (map core_of now) (length-map now core_of ∙ (long ∙ sym (length-map workers core_of)))
             (same_at is_back) are.all;
         rest = λ k d within. (is_back k d (omega (arith, within, long))).0;
       }

@@ -31,8 +31,7 @@ fn call_at<R: Wait, D: Disk + Drop>(
         return None;
     }
     let site = volume.site();
-    let basis = volume.basis;
-    make_call(rt, alloc, &site, basis, &mut workers[place], asked, &NoGate).ok()
+    make_call(rt, alloc, &site, &mut workers[place], asked, &NoGate).ok()
 }
 
 /// Makes a call of the worker at a place. None, where there is no such worker, or no memory.

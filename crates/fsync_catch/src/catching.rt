@@ -1,15 +1,15 @@
 // An fsync looks again until what it concerns is exactly what it held as it looked.
-ghost use Rattle.std.specs.Prelude.{◌≡◌, ◌↔◌, ◌+◌, ◌*◌, ◌<◌, true, [], ◌∷◌, IfOk, OnErr, length};
+ghost use Rattle.std.specs.Prelude.{◌≡◌, ◌-◌, ◌^◌, ◌≤◌, ◌↔◌, ◌+◌, ◌*◌, ◌<◌, true, [], ◌∷◌, IfOk, OnErr, length};
 ghost use Rattle.stamp_table.specs.Ascending.{LiesAbove};
 ghost use Rattle.mem_values.specs.Start.{given_by};
-ghost use Rattle.mem_calls.specs.Table.{IsFileTable};
+ghost use Rattle.mem_calls.specs.Table.{nodes_of};
 ghost use Rattle.mem_calls.specs.Working.{IsWorking};
 ghost use Rattle.fsync_catch.specs.Catch.{HasItsFsync, IsCaught, GoesOn, LetsAllGo};
 
 use crate::looking::{Caught, Holding, WaitingFsync, look_once};
 use fsync_look::hold_nodes;
-use mem_calls::let_all_go;
-use mem_values::{FileCore, FileShared};
+use mem_calls::{TreeTable, let_all_go};
+use mem_values::FileCore;
 use sfs_base::{NoMemory, NodeId, NodeList};
 use std::alloc::Global;
 use std::sync::Wait;
@@ -52,25 +52,26 @@ fn cells_for(nodes: &NodeList) -> Result<u32, NoMemory>
 pub fn catch_nodes<R: Wait>(
     rt: &R,
     alloc: Global,
-    shared: &FileShared,
+    table: &TreeTable,
     core: &mut FileCore,
-    nodes: u32,
     cores: u8,
     fsync: WaitingFsync,
 ) -> Result<Caught, NoMemory>
-    requires table { IsFileTable shared.now nodes }
-    requires work { IsWorking (given_by shared.now) shared.now core.old }
+    requires work { IsWorking (given_by table.now) table.now core.old }
     requires none { (core.old.held ≡ []) × (core.old.view.held ≡ []) }
-    requires cores { cores ≡ length shared.now.first.made }
-    requires within { fsync.node.0 < nodes }
+    requires cores { cores ≡ length table.now.first.made }
+    requires within { fsync.node.0 < nodes_of table.now }
     requires waits { HasItsFsync core.old fsync }
-    ensures work { IsWorking (given_by shared.now) shared.now core.new }
+    ensures work { IsWorking (given_by table.now) table.now core.new }
     ensures on { GoesOn core.old core.new }
-    ensures caught { IfOk result (IsCaught (given_by shared.now) nodes fsync core.new) }
+    ensures caught { IfOk result (IsCaught (given_by table.now) (nodes_of table.now) fsync core.new) }
     ensures room { IfOk result (λ caught. 0 < core.new.room) }
-    ensures below { IfOk result (λ caught. LiesAbove (32 + 10 * nodes) core.new.view.held) }
+    ensures below { IfOk result (λ caught. LiesAbove (32 + 10 * nodes_of table.now) core.new.view.held) }
     ensures none { OnErr result (LetsAllGo core.new) }
+    ensures few { nodes_of table.now ≤ 2 ^ 32 - 1 }
 {
+    let shared = table.shared();
+    let nodes = table.nodes();
     let mut held = one_node(alloc, fsync.node)?;
     let mut looks = 0u32;
     for _ in rt.forever() {

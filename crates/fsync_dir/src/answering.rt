@@ -7,8 +7,8 @@ ghost use Rattle.fsync_dir.specs.Answering.{EndsUntold, LetsGoWaiting, reply_to}
 
 use fsync_catch::WaitingFsync;
 use journal_set::CommitFault;
-use mem_calls::let_all_go;
-use mem_values::{FileCore, FileShared};
+use mem_calls::{TreeTable, let_all_go};
+use mem_values::FileCore;
 use tree_laws::Reply;
 
 // The reply to an fsync whose commit was refused so; none where a node has moved, since then it begins anew.
@@ -25,30 +25,30 @@ fn reply_to(fault: CommitFault) -> Option<Reply>
 }
 
 /// Lets all go, and answers that memory was wanting.
-pub(crate) fn answer_wanting(shared: &FileShared, core: &mut FileCore, fsync: WaitingFsync) -> Reply
-    requires work { IsWorking (given_by shared.now) shared.now core.old }
+pub(crate) fn answer_wanting(table: &TreeTable, core: &mut FileCore, fsync: WaitingFsync) -> Reply
+    requires work { IsWorking (given_by table.now) table.now core.old }
     requires waits { core.old.waiting ≡ Some fsync.stamp.0 }
-    ensures ends { EndsUntold shared.now fsync reply.NoMemory core.old core.new }
+    ensures ends { EndsUntold table.now fsync reply.NoMemory core.old core.new }
     ensures reply { result ≡ reply.NoMemory }
 {
-    let_all_go(shared, core);
+    let_all_go(table.shared(), core);
     core.answer(fsync.stamp, Reply::NoMemory, None);
     Reply::NoMemory
 }
 
 /// Lets all go, and answers why a commit was refused; nothing is answered where a node has moved.
 pub(crate) fn answer_refused(
-    shared: &FileShared,
+    table: &TreeTable,
     core: &mut FileCore,
     fsync: WaitingFsync,
     fault: CommitFault,
 ) -> Option<Reply>
-    requires work { IsWorking (given_by shared.now) shared.now core.old }
+    requires work { IsWorking (given_by table.now) table.now core.old }
     requires waits { core.old.waiting ≡ Some fsync.stamp.0 }
     ensures reply { result ≡ reply_to fault }
-    ensures ends { MatchOption result (LetsGoWaiting shared.now core.old core.new) (λ given. EndsUntold shared.now fsync given core.old core.new) }
+    ensures ends { MatchOption result (LetsGoWaiting table.now core.old core.new) (λ given. EndsUntold table.now fsync given core.old core.new) }
 {
-    let_all_go(shared, core);
+    let_all_go(table.shared(), core);
     let given = reply_to(fault)?;
     core.answer(fsync.stamp, given, None);
     reply_to(fault)

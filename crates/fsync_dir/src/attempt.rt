@@ -9,7 +9,7 @@ ghost use Rattle.fsync_draft.specs.Drafting.{IsDraftOf, IsHollow, IsOwnDraftOf};
 ghost use Rattle.landing_laws.specs.Made.{PlannedFsync};
 ghost use Rattle.landing_laws.specs.Landed.{directories_of};
 ghost use Rattle.mem_values.specs.Start.{given_by};
-ghost use Rattle.mem_calls.specs.Table.{IsFileTable};
+ghost use Rattle.mem_calls.specs.Table.{nodes_of};
 ghost use Rattle.mem_calls.specs.Working.{IsWorking};
 ghost use Rattle.fsync_catch.specs.Catch.{GoesOn, LetsAllGo};
 ghost use Rattle.fsync_dir.specs.Attempt.{HasCaught, HasDrafted, HasHeldAlone, HoldsFileAlone, attempt_at};
@@ -86,17 +86,17 @@ fn commit_planned<R: Wait, D: Disk + Drop, G: Gate>(
     todo: PlannedCommit,
     gate: &G,
 ) -> Option<Reply>
-    requires site { IsSite site.now.shared.now site.now.nodes site.now.cores pen.old.table.given }
+    requires site { IsSite site.now.table.now (nodes_of site.now.table.now) site.now.cores pen.old.table.given }
     requires ready { IsReady site.now.set.now pen.old }
     requires agree { ToldAsReserved core.old pen.old }
     requires drafted { (planned : PlannedFsync)
-        × HasDrafted (attempt_at site.now.shared.now site.now.nodes own.now planned.hand pen.old) planned todo core.old }
+        × HasDrafted (attempt_at site.now.table.now (nodes_of site.now.table.now) own.now planned.hand pen.old) planned todo core.old }
     ensures ready { IsReady site.now.set.now pen.new }
     ensures goes { PenGoes pen.old pen.new }
     ensures room { pen.new.room ≡ pen.old.room }
     ensures comes { (planned : PlannedFsync)
-        → HasDrafted (attempt_at site.now.shared.now site.now.nodes own.now planned.hand pen.old) planned todo core.old
-        → AttemptComes (attempt_at site.now.shared.now site.now.nodes own.now planned.hand pen.old) core.new pen.new result }
+        → HasDrafted (attempt_at site.now.table.now (nodes_of site.now.table.now) own.now planned.hand pen.old) planned todo core.old
+        → AttemptComes (attempt_at site.now.table.now (nodes_of site.now.table.now) own.now planned.hand pen.old) core.new pen.new result }
 {
     let PlannedCommit {
         drafted: DraftedFsync { draft, values },
@@ -127,7 +127,7 @@ fn commit_planned<R: Wait, D: Disk + Drop, G: Gate>(
         }
         Err(CommitRefusal { fault, old }) => {
             put_back(core, values, old);
-            answer_refused(site.shared, core, own.fsync, fault)
+            answer_refused(site.table, core, own.fsync, fault)
         }
     }
 }
@@ -143,18 +143,18 @@ fn commit_caught<R: Wait, D: Disk + Drop, G: Gate>(
     caught: Caught,
     gate: &G,
 ) -> Option<Reply>
-    requires site { IsSite site.now.shared.now site.now.nodes site.now.cores pen.old.table.given }
+    requires site { IsSite site.now.table.now (nodes_of site.now.table.now) site.now.cores pen.old.table.given }
     requires ready { IsReady site.now.set.now pen.old }
     requires agree { ToldAsReserved core.old pen.old }
-    requires caught { HasCaught site.now.shared.now site.now.nodes own.now caught core.old }
+    requires caught { HasCaught site.now.table.now (nodes_of site.now.table.now) own.now caught core.old }
     ensures ready { IsReady site.now.set.now pen.new }
     ensures goes { PenGoes pen.old pen.new }
     ensures room { pen.new.room ≡ pen.old.room }
-    ensures comes { AttemptComes (attempt_at site.now.shared.now site.now.nodes own.now core.old pen.old) core.new pen.new result }
+    ensures comes { AttemptComes (attempt_at site.now.table.now (nodes_of site.now.table.now) own.now core.old pen.old) core.new pen.new result }
 {
     match planned(alloc, core, own, caught) {
         Ok(todo) => commit_planned(rt, alloc, site, core, pen, own, todo, gate),
-        Err(_) => Some(answer_wanting(site.shared, core, own.fsync)),
+        Err(_) => Some(answer_wanting(site.table, core, own.fsync)),
     }
 }
 
@@ -195,18 +195,18 @@ fn commit_alone<R: Wait, D: Disk + Drop, G: Gate>(
     cut: Stamp,
     gate: &G,
 ) -> Option<Reply>
-    requires site { IsSite site.now.shared.now site.now.nodes site.now.cores pen.old.table.given }
+    requires site { IsSite site.now.table.now (nodes_of site.now.table.now) site.now.cores pen.old.table.given }
     requires ready { IsReady site.now.set.now pen.old }
     requires agree { ToldAsReserved core.old pen.old }
-    requires alone { HasHeldAlone site.now.shared.now site.now.nodes own.now cut core.old }
+    requires alone { HasHeldAlone site.now.table.now (nodes_of site.now.table.now) own.now cut core.old }
     ensures ready { IsReady site.now.set.now pen.new }
     ensures goes { PenGoes pen.old pen.new }
     ensures room { pen.new.room ≡ pen.old.room }
-    ensures comes { AttemptComes (attempt_at site.now.shared.now site.now.nodes own.now core.old pen.old) core.new pen.new result }
+    ensures comes { AttemptComes (attempt_at site.now.table.now (nodes_of site.now.table.now) own.now core.old pen.old) core.new pen.new result }
 {
     match planned_alone(alloc, core, own, cut) {
         Ok(todo) => commit_planned(rt, alloc, site, core, pen, own, todo, gate),
-        Err(_) => Some(answer_wanting(site.shared, core, own.fsync)),
+        Err(_) => Some(answer_wanting(site.table, core, own.fsync)),
     }
 }
 
@@ -220,26 +220,18 @@ fn attempt_by_look<R: Wait, D: Disk + Drop, G: Gate>(
     own: &OwnFsync,
     gate: &G,
 ) -> Option<Reply>
-    requires site { IsSite site.now.shared.now site.now.nodes site.now.cores pen.old.table.given }
+    requires site { IsSite site.now.table.now (nodes_of site.now.table.now) site.now.cores pen.old.table.given }
     requires ready { IsReady site.now.set.now pen.old }
     requires agree { ToldAsReserved core.old pen.old }
-    requires waits { WaitsToFlush site.now.shared.now site.now.nodes own.now.fsync own.now.file core.old }
+    requires waits { WaitsToFlush site.now.table.now (nodes_of site.now.table.now) own.now.fsync own.now.file core.old }
     ensures ready { IsReady site.now.set.now pen.new }
     ensures goes { PenGoes pen.old pen.new }
     ensures room { pen.new.room ≡ pen.old.room }
-    ensures comes { AttemptComes (attempt_at site.now.shared.now site.now.nodes own.now core.old pen.old) core.new pen.new result }
+    ensures comes { AttemptComes (attempt_at site.now.table.now (nodes_of site.now.table.now) own.now core.old pen.old) core.new pen.new result }
 {
-    match catch_nodes(
-        rt,
-        alloc,
-        site.shared,
-        core,
-        site.node_count(),
-        site.cores,
-        own.fsync,
-    ) {
+    match catch_nodes(rt, alloc, site.table, core, site.cores, own.fsync) {
         Ok(caught) => commit_caught(rt, alloc, site, core, pen, own, caught, gate),
-        Err(_) => Some(answer_wanting(site.shared, core, own.fsync)),
+        Err(_) => Some(answer_wanting(site.table, core, own.fsync)),
     }
 }
 
@@ -250,15 +242,14 @@ fn hold_file<R: Wait, D: Disk + Drop>(
     core: &mut FileCore,
     own: &OwnFsync,
 ) -> Result<Option<Stamp>, NoMemory>
-    requires table { IsFileTable site.now.shared.now site.now.nodes }
-    requires waits { WaitsToFlush site.now.shared.now site.now.nodes own.now.fsync own.now.file core.old }
-    ensures work { IsWorking (given_by site.now.shared.now) site.now.shared.now core.new }
+    requires waits { WaitsToFlush site.now.table.now (nodes_of site.now.table.now) own.now.fsync own.now.file core.old }
+    ensures work { IsWorking (given_by site.now.table.now) site.now.table.now core.new }
     ensures on { GoesOn core.old core.new }
-    ensures alone { IfOk result (λ cut. MatchOption cut (LetsAllGo core.new) (HoldsFileAlone site.now.shared.now site.now.nodes own.now core.new)) }
+    ensures alone { IfOk result (λ cut. MatchOption cut (LetsAllGo core.new) (HoldsFileAlone site.now.table.now (nodes_of site.now.table.now) own.now core.new)) }
     ensures none { OnErr result (LetsAllGo core.new) }
 {
     match own.file.as_ref() {
-        Some(_) => catch_alone(rt, site.shared, core, site.node_count(), own.fsync),
+        Some(_) => catch_alone(rt, site.table, core, own.fsync),
         None => Ok(None),
     }
 }
@@ -274,18 +265,18 @@ pub(crate) fn attempt<R: Wait, D: Disk + Drop, G: Gate>(
     own: &OwnFsync,
     gate: &G,
 ) -> Option<Reply>
-    requires site { IsSite site.now.shared.now site.now.nodes site.now.cores pen.old.table.given }
+    requires site { IsSite site.now.table.now (nodes_of site.now.table.now) site.now.cores pen.old.table.given }
     requires ready { IsReady site.now.set.now pen.old }
     requires agree { ToldAsReserved core.old pen.old }
-    requires waits { WaitsToFlush site.now.shared.now site.now.nodes own.now.fsync own.now.file core.old }
+    requires waits { WaitsToFlush site.now.table.now (nodes_of site.now.table.now) own.now.fsync own.now.file core.old }
     ensures ready { IsReady site.now.set.now pen.new }
     ensures goes { PenGoes pen.old pen.new }
     ensures room { pen.new.room ≡ pen.old.room }
-    ensures comes { AttemptComes (attempt_at site.now.shared.now site.now.nodes own.now core.old pen.old) core.new pen.new result }
+    ensures comes { AttemptComes (attempt_at site.now.table.now (nodes_of site.now.table.now) own.now core.old pen.old) core.new pen.new result }
 {
     match hold_file(rt, site, core, own) {
         Ok(Some(cut)) => commit_alone(rt, alloc, site, core, pen, own, cut, gate),
         Ok(None) => attempt_by_look(rt, alloc, site, core, pen, own, gate),
-        Err(_) => Some(answer_wanting(site.shared, core, own.fsync)),
+        Err(_) => Some(answer_wanting(site.table, core, own.fsync)),
     }
 }

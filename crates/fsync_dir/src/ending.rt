@@ -1,7 +1,7 @@
 // The end of an fsync whose commit has become durable.
 ghost use Rattle.std.specs.Prelude.{◌≡◌, ◌+◌, ◌*◌, ◌<◌, length};
 ghost use Rattle.stamp_table.specs.Ascending.{LiesAbove};
-ghost use Rattle.mem_calls.specs.Table.{IsFileTable};
+ghost use Rattle.mem_calls.specs.Table.{IsFileTable, nodes_of};
 ghost use Rattle.landing_laws.specs.Landed.{LandedFsync};
 ghost use Rattle.fsync_dir.specs.Ending.{HasLandedHere, LandsSo};
 
@@ -37,13 +37,13 @@ pub(crate) fn end_landed<R: Wait, D: Disk>(
     left: PlanLeft,
     landed: Landed,
 )
-    requires table { IsFileTable site.now.shared.now site.now.nodes }
-    requires cores { site.now.cores ≡ length site.now.shared.now.first.made }
-    requires below { LiesAbove (32 + 10 * site.now.nodes) core.old.view.held }
+    requires table { IsFileTable site.now.table.now (nodes_of site.now.table.now) }
+    requires cores { site.now.cores ≡ length site.now.table.now.first.made }
+    requires below { LiesAbove (32 + 10 * nodes_of site.now.table.now) core.old.view.held }
     requires room { 0 < core.old.room }
-    requires landed { (s : LandedFsync) × HasLandedHere site.now.shared.now fsync left landed s core.old }
-    ensures lands { (s : LandedFsync) → HasLandedHere site.now.shared.now fsync left landed s core.old
-        → LandsSo site.now.shared.now fsync s landed.ack core.old core.new }
+    requires landed { (s : LandedFsync) × HasLandedHere site.now.table.now fsync left landed s core.old }
+    ensures lands { (s : LandedFsync) → HasLandedHere site.now.table.now fsync left landed s core.old
+        → LandsSo site.now.table.now fsync s landed.ack core.old core.new }
 {
     let Landed {
         ack,
@@ -78,5 +78,5 @@ pub(crate) fn end_landed<R: Wait, D: Disk>(
         values,
         ack: ack.moment,
     };
-    finish::<R, Brand>(rt, site.shared, core, site.nodes, site.cores, ending);
+    finish::<R, Brand>(rt, site.table, core, site.cores, ending);
 }

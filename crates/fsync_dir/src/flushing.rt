@@ -1,6 +1,7 @@
 // An fsync of any node.
 ghost use Rattle.std.specs.Prelude.{◌≡◌, ◌<◌, ◌≤◌, MatchResult};
 ghost use Rattle.stamp_table.specs.Table.{IsBetweenCalls};
+ghost use Rattle.mem_calls.specs.Table.{nodes_of};
 ghost use Rattle.disk_box.specs.Pens.{PenGoes};
 ghost use Rattle.journal_set.specs.Ready.{IsReady};
 ghost use Rattle.fsync_stamp.specs.Stamping.{AnswersFsync};
@@ -52,20 +53,20 @@ pub fn flush<R: Wait, D: Disk + Drop, G: Gate>(
     node: NodeId,
     gate: &G,
 ) -> Reply
-    requires site { IsSite site.now.shared.now site.now.nodes site.now.cores pen.old.table.given }
-    requires core { IsBetweenCalls site.now.shared.now core.old }
+    requires site { IsSite site.now.table.now (nodes_of site.now.table.now) site.now.cores pen.old.table.given }
+    requires core { IsBetweenCalls site.now.table.now core.old }
     requires spare { 0 < core.old.spare }
     requires cells { STAMP_CELLS ≤ core.old.room }
     requires ready { IsReady site.now.set.now pen.old }
     requires agree { ToldAsReserved core.old pen.old }
-    ensures answers { AnswersFsync site.now.shared.now node result core.old core.new }
+    ensures answers { AnswersFsync site.now.table.now node result core.old core.new }
     ensures ready { IsReady site.now.set.now pen.new }
     ensures goes { PenGoes pen.old pen.new }
     ensures room { pen.new.room ≡ pen.old.room }
     ensures agree { ToldAsReserved core.new pen.new }
-    ensures comes { FlushComes site.now.shared.now site.now.nodes node core.old core.new pen.old pen.new result }
+    ensures comes { FlushComes site.now.table.now (nodes_of site.now.table.now) node core.old core.new pen.old pen.new result }
 {
-    let stamped = stamp_with_copy(rt, alloc, site.shared, core, site.nodes, node, gate);
+    let stamped = stamp_with_copy(rt, alloc, site.table, core, node, gate);
     let Some(stamped) = stamped else {
         return Reply::Error {
             code: Code::NoEntry,
@@ -73,6 +74,6 @@ pub fn flush<R: Wait, D: Disk + Drop, G: Gate>(
     };
     match own_fsync(node, stamped) {
         Ok(own) => serve(rt, alloc, site, core, pen, &own, gate),
-        Err(fsync) => answer_wanting(site.shared, core, fsync),
+        Err(fsync) => answer_wanting(site.table, core, fsync),
     }
 }

@@ -1,5 +1,6 @@
 // An fsync that waits is tried until it is answered.
 ghost use Rattle.std.specs.Prelude.{◌≡◌};
+ghost use Rattle.mem_calls.specs.Table.{nodes_of};
 ghost use Rattle.disk_box.specs.Pens.{PenGoes};
 ghost use Rattle.journal_set.specs.Ready.{IsReady};
 ghost use Rattle.fsync_dir.specs.Attempt.{attempt_at};
@@ -26,14 +27,14 @@ pub(crate) fn serve<R: Wait, D: Disk + Drop, G: Gate>(
     own: &OwnFsync,
     gate: &G,
 ) -> Reply
-    requires site { IsSite site.now.shared.now site.now.nodes site.now.cores pen.old.table.given }
+    requires site { IsSite site.now.table.now (nodes_of site.now.table.now) site.now.cores pen.old.table.given }
     requires ready { IsReady site.now.set.now pen.old }
     requires agree { ToldAsReserved core.old pen.old }
-    requires waits { WaitsToFlush site.now.shared.now site.now.nodes own.now.fsync own.now.file core.old }
+    requires waits { WaitsToFlush site.now.table.now (nodes_of site.now.table.now) own.now.fsync own.now.file core.old }
     ensures ready { IsReady site.now.set.now pen.new }
     ensures goes { PenGoes pen.old pen.new }
     ensures room { pen.new.room ≡ pen.old.room }
-    ensures comes { IsServed (attempt_at site.now.shared.now site.now.nodes own.now core.old pen.old) core.new pen.new result }
+    ensures comes { IsServed (attempt_at site.now.table.now (nodes_of site.now.table.now) own.now core.old pen.old) core.new pen.new result }
 {
     for _ in rt.forever() {
         if let Some(given) = attempt(rt, alloc, site, core, pen, own, gate) {

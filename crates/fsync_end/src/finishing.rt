@@ -4,11 +4,12 @@ ghost use Rattle.stamp_table.specs.Ascending.{LiesAbove};
 ghost use Rattle.stamp_table.specs.Table.{IsBetweenCalls};
 ghost use Rattle.mem_values.specs.Start.{given_by};
 ghost use Rattle.mem_values.specs.declared.fact.Fact.{Fact as FactValue};
-ghost use Rattle.mem_calls.specs.Table.{IsFileTable};
+ghost use Rattle.mem_calls.specs.Table.{nodes_of};
 ghost use Rattle.fsync_end.specs.Finishing.{logs_trimmed, MayEnd, Finishes};
 
 use crate::trimming::trim_all;
-use mem_values::{Cell, Fact, FileCore, FileShared};
+use mem_calls::TreeTable;
+use mem_values::{Cell, Fact, FileCore};
 use sfs_base::{NodeId, NodeList, Stamp};
 use stamp_table::Telling;
 use std::sync::Wait;
@@ -41,21 +42,21 @@ fn logs_to_trim(members: &[NodeId], cores: u8) -> u8
 /// all cores below the stamp where it has a member, lets all go, and answers the call. It waits while another core has a log. It takes no memory.
 pub fn finish<R: Wait, J: Telling<Fact>>(
     rt: &R,
-    shared: &FileShared,
+    table: &TreeTable,
     core: &mut FileCore,
-    nodes: u32,
     cores: u8,
     ending: Ending,
 )
-    requires table { IsFileTable shared.now nodes }
-    requires cores { cores ≡ length shared.now.first.made }
-    requires below { LiesAbove (32 + 10 * nodes) core.old.view.held }
+    requires cores { cores ≡ length table.now.first.made }
+    requires below { LiesAbove (32 + 10 * nodes_of table.now) core.old.view.held }
     requires room { 0 < core.old.room }
     requires waits { core.old.waiting ≡ Some ending.stamp.0 }
-    requires may { MayEnd (given_by shared.now) shared.now nodes J.fact ending core.old }
-    ensures between { IsBetweenCalls shared.now core.new }
-    ensures finishes { (told : FactValue) → J.fact ≡ Some told → Finishes (given_by shared.now) cores told ending core.old core.new }
+    requires may { MayEnd (given_by table.now) table.now (nodes_of table.now) J.fact ending core.old }
+    ensures between { IsBetweenCalls table.now core.new }
+    ensures finishes { (told : FactValue) → J.fact ≡ Some told → Finishes (given_by table.now) cores told ending core.old core.new }
 {
+    let shared = table.shared();
+    let nodes = table.nodes();
     let Ending {
         number,
         node: _,

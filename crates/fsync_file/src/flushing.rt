@@ -2,6 +2,7 @@
 ghost use Rattle.std.specs.Prelude.{◌≡◌, ◌<◌, ◌≤◌};
 ghost use Rattle.stamp_table.specs.Table.{IsBetweenCalls};
 ghost use Rattle.mem_values.specs.Start.{given_by};
+ghost use Rattle.mem_calls.specs.Table.{nodes_of};
 ghost use Rattle.disk_box.specs.Pens.{PenGoes};
 ghost use Rattle.journal_set.specs.Ready.{IsReady};
 ghost use Rattle.fsync_stamp.specs.Stamping.{AnswersFsync};
@@ -30,19 +31,19 @@ pub fn flush<R: Wait, D: Disk + Drop, G: Gate>(
     node: NodeId,
     gate: &G,
 ) -> Reply
-    requires site { IsSite site.now.shared.now site.now.nodes site.now.cores pen.old.table.given }
-    requires core { IsBetweenCalls site.now.shared.now core.old }
-    requires saw { HasSeenInode (given_by site.now.shared.now) site.now.nodes node core.old }
+    requires site { IsSite site.now.table.now (nodes_of site.now.table.now) site.now.cores pen.old.table.given }
+    requires core { IsBetweenCalls site.now.table.now core.old }
+    requires saw { HasSeenInode (given_by site.now.table.now) (nodes_of site.now.table.now) node core.old }
     requires spare { 0 < core.old.spare }
     requires cells { STAMP_CELLS ≤ core.old.room }
     requires ready { IsReady site.now.set.now pen.old }
     requires agree { ToldAsReserved core.old pen.old }
-    ensures answers { AnswersFsync site.now.shared.now node result core.old core.new }
+    ensures answers { AnswersFsync site.now.table.now node result core.old core.new }
     ensures ready { IsReady site.now.set.now pen.new }
     ensures goes { PenGoes pen.old pen.new }
     ensures room { pen.new.room ≡ pen.old.room }
     ensures agree { ToldAsReserved core.new pen.new }
-    ensures comes { FlushComes site.now.shared.now site.now.nodes node core.old core.new pen.old pen.new result }
+    ensures comes { FlushComes site.now.table.now (nodes_of site.now.table.now) node core.old core.new pen.old pen.new result }
 {
     fsync_dir::flush(rt, alloc, site, core, pen, node, gate)
 }

@@ -3,13 +3,14 @@ ghost use Rattle.std.specs.Prelude.{◌≡◌, ◌<◌, ◌≤◌, None, Some, I
 ghost use Rattle.stamp_table.specs.Table.{IsBetweenCalls};
 ghost use Rattle.mem_values.specs.declared.cell.FileCell.{FileCell};
 ghost use Rattle.mem_calls.specs.Held.{HoldsDirectory, file_held};
-ghost use Rattle.mem_calls.specs.Table.{IsFileTable};
 ghost use Rattle.fsync_stamp.specs.Copying.{ComesToCopy, copied_as};
 
 use crate::stamp::{STAMP_CELLS, is_dead_fault, stamp_held};
-use mem_calls::{bucket_in, directory_fault_in, file_in, hold_directory, hold_part, is_standing};
+use mem_calls::{
+    TreeTable, bucket_in, directory_fault_in, file_in, hold_directory, hold_part, is_standing,
+};
 use mem_files::FileBytes;
-use mem_values::{FileCore, FileShared};
+use mem_values::FileCore;
 use sfs_base::{Gate, NodeId, Stamp};
 use std::alloc::Global;
 use std::sync::Wait;
@@ -66,18 +67,18 @@ fn copied_as(is_directory: bool, bytes: Option<FileBytes>) -> Copied
 pub fn stamp_with_copy<R: Wait, G: Gate>(
     rt: &R,
     alloc: Global,
-    shared: &FileShared,
+    table: &TreeTable,
     core: &mut FileCore,
-    nodes: u32,
     node: NodeId,
     gate: &G,
 ) -> Option<StampedFsync>
-    requires table { IsFileTable shared.now nodes }
-    requires core { IsBetweenCalls shared.now core.old }
+    requires core { IsBetweenCalls table.now core.old }
     requires spare { 0 < core.old.spare }
     requires room { STAMP_CELLS ≤ core.old.room }
-    ensures { ComesToCopy shared.now node core.old core.new result }
+    ensures { ComesToCopy table.now node core.old core.new result }
 {
+    let shared = table.shared();
+    let nodes = table.nodes();
     hold_directory(rt, shared, core, nodes, node, 0);
     let bytes = copy_held(core, nodes, node);
     hold_part(rt, shared, core, nodes, gate);

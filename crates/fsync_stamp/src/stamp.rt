@@ -9,7 +9,7 @@ ghost use Rattle.mem_calls.specs.Held.{HoldsDirectory, HoldsPart, InEach};
 ghost use Rattle.mem_calls.specs.Working.{IsWorking};
 ghost use Rattle.fsync_stamp.specs.Stamping.{ComesToStamp, StampsHeld, is_dead_fault, reply_for_now};
 
-use mem_calls::{add_entry, directory_fault_in, hold_directory, hold_part};
+use mem_calls::{TreeTable, add_entry, directory_fault_in, hold_directory, hold_part};
 use mem_values::{FileCore, FileShared};
 use sfs_base::{Gate, NodeId, Stamp};
 use std::alloc::Global;
@@ -80,18 +80,18 @@ pub(crate) fn stamp_held(
 pub fn stamp_fsync<R: Wait, G: Gate>(
     rt: &R,
     alloc: Global,
-    shared: &FileShared,
+    table: &TreeTable,
     core: &mut FileCore,
-    nodes: u32,
     node: NodeId,
     gate: &G,
 ) -> Option<Stamp>
-    requires table { IsFileTable shared.now nodes }
-    requires core { IsBetweenCalls shared.now core.old }
+    requires core { IsBetweenCalls table.now core.old }
     requires spare { 0 < core.old.spare }
     requires room { STAMP_CELLS ≤ core.old.room }
-    ensures { ComesToStamp shared.now node core.old core.new result }
+    ensures { ComesToStamp table.now node core.old core.new result }
 {
+    let shared = table.shared();
+    let nodes = table.nodes();
     hold_directory(rt, shared, core, nodes, node, 0);
     hold_part(rt, shared, core, nodes, gate);
     let lives = lives_in(core, nodes, node);

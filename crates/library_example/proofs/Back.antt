@@ -32,12 +32,12 @@ cores_are (seat ∷ seats) = ap (λ cores. seat.worker.core ∷ cores) (cores_ar
 
 module _ {D : Type 0} (volume : Volume D) where
   -- the workers of a volume rest at their seats
-  pub all_rest : (seats : List (Seat D)) → AreWorkers volume (map worker_at seats) → AllRest volume.shared volume.set seats
+  pub all_rest : (seats : List (Seat D)) → AreWorkers volume (map worker_at seats) → AllRest volume.table volume.set seats
   all_rest seats are place d low =
-      subst (Rests volume.shared (PairAgrees volume)) (there worker_at seats place d.worker d low)
+      subst (Rests volume.table (PairAgrees volume)) (there worker_at seats place d.worker d low)
       (are.rest place d.worker (let long = length-map seats worker_at in omega (arith, low, long)))
 
-  module _ (before after : List (Seat D)) (long : length after ≡ length before) (back : AllAreBack volume.shared volume.set before after) where
+  module _ (before after : List (Seat D)) (long : length after ≡ length before) (back : AllAreBack volume.table volume.set before after) where
     -- where each is back its core is the one that it had, and holds nothing
     same : (place : ℕ) (d : FileHand) → place < length (map core_at before)
         → IsSameCore (get_or (map core_at before) place d) (get_or (map core_at after) place d) × ((get_or (map core_at after) place d).held ≡ [])
@@ -54,13 +54,13 @@ module _ {D : Type 0} (volume : Volume D) where
     -- and they are all workers of the volume still
     pub seats_again : AreWorkers volume (map worker_at before) → AreWorkers volume (map worker_at after)
     seats_again are = record {
-      all = subst (AreAllCores volume.shared) (sym (cores_are after))
-          (all_again volume.shared (map core_at before) (map core_at after)
+      all = subst (AreAllCores volume.table) (sym (cores_are after))
+          (all_again volume.table (map core_at before) (map core_at after)
           (length-map after core_at ∙ (long ∙ sym (length-map before core_at))) same
-          (subst (AreAllCores volume.shared) (cores_are before) are.all));
+          (subst (AreAllCores volume.table) (cores_are before) are.all));
       rest = λ place d low.
           let within : place < length after = (let count = length-map after worker_at in omega (arith, low, count)) in
           let seat = some_item after place within in
           let is = back place seat (omega (arith, within, long)) in
-          subst (Rests volume.shared (PairAgrees volume)) (sym (there worker_at after place d seat within)) is.rests;
+          subst (Rests volume.table (PairAgrees volume)) (sym (there worker_at after place d seat within)) is.rests;
     }

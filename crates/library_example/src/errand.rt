@@ -1,6 +1,6 @@
 // What a worker does on a volume.
 ghost use Rattle.tree_laws.specs.Step.{IsReadable};
-ghost use Rattle.workers.specs.Works.{IsBasisOf, Rests};
+ghost use Rattle.workers.specs.Works.{Rests};
 ghost use Rattle.mount.specs.Serving.{ServesAt};
 ghost use Rattle.mount.specs.Workers.{AgreeAt};
 ghost use Rattle.library_example.specs.Calls.{IsBack};
@@ -14,7 +14,7 @@ use sfs_dev::Disk;
 use std::alloc::Global;
 use std::sync::Wait;
 use tree_laws::{Call, Reply};
-use workers::{Basis, Worker};
+use workers::Worker;
 
 // The root's node.
 const ROOT: NodeId = NodeId(0);
@@ -24,17 +24,15 @@ fn ask<R: Wait, D: Disk + Drop>(
     rt: &R,
     alloc: Global,
     site: &FlushSite<D>,
-    basis: Basis,
     worker: &mut Worker<Pen<D>>,
     asked: Call,
 ) -> Result<Reply, Trouble>
-    requires site { ServesAt site.now.shared.now site.now.set.now site.now.nodes site.now.cores }
-    requires basis { IsBasisOf site.now.shared.now basis }
-    requires rest { Rests site.now.shared.now (AgreeAt site.now.shared.now site.now.set.now) worker.old }
+    requires site { ServesAt site.now.table.now site.now.set.now site.now.cores }
+    requires rest { Rests site.now.table.now (AgreeAt site.now.table.now site.now.set.now) worker.old }
     requires readable { IsReadable asked }
-    ensures { IsBack site.now.shared.now site.now.set.now worker.old worker.new }
+    ensures { IsBack site.now.table.now site.now.set.now worker.old worker.new }
 {
-    Ok(make_call(rt, alloc, site, basis, worker, asked, &NoGate)?)
+    Ok(make_call(rt, alloc, site, worker, asked, &NoGate)?)
 }
 
 // The node that was made.
@@ -66,38 +64,36 @@ pub fn run_errand<R: Wait, D: Disk + Drop>(
     rt: &R,
     alloc: Global,
     site: &FlushSite<D>,
-    basis: Basis,
     worker: &mut Worker<Pen<D>>,
     number: usize,
 ) -> Result<String, Trouble>
-    requires site { ServesAt site.now.shared.now site.now.set.now site.now.nodes site.now.cores }
-    requires basis { IsBasisOf site.now.shared.now basis }
-    requires rest { Rests site.now.shared.now (AgreeAt site.now.shared.now site.now.set.now) worker.old }
-    ensures { IsBack site.now.shared.now site.now.set.now worker.old worker.new }
+    requires site { ServesAt site.now.table.now site.now.set.now site.now.cores }
+    requires rest { Rests site.now.table.now (AgreeAt site.now.table.now site.now.set.now) worker.old }
+    ensures { IsBack site.now.table.now site.now.set.now worker.old worker.new }
 {
     let asked = Call::Make {
         dir: ROOT,
         name: Name::new(alloc, format!(in alloc; "worker-{number}")?.as_bytes())?,
         kind: Kind::Directory,
     };
-    let home = made(ask(rt, alloc, site, basis, worker, asked)?)?;
+    let home = made(ask(rt, alloc, site, worker, asked)?)?;
     let asked = Call::Make {
         dir: home,
         name: Name::new(alloc, b"note".as_slice())?,
         kind: Kind::File,
     };
-    let note = made(ask(rt, alloc, site, basis, worker, asked)?)?;
+    let note = made(ask(rt, alloc, site, worker, asked)?)?;
     let asked = Call::Write {
         file: note,
         at: 0,
         bytes: Chunk::new(format!(in alloc; "written by worker {number}")?.into_bytes())?,
     };
-    done(ask(rt, alloc, site, basis, worker, asked)?)?;
-    done(ask(rt, alloc, site, basis, worker, Call::Fsync { node: note })?)?;
+    done(ask(rt, alloc, site, worker, asked)?)?;
+    done(ask(rt, alloc, site, worker, Call::Fsync { node: note })?)?;
     let asked = Call::Read {
         file: note,
         at: 0,
         count: 100,
     };
-    told(alloc, ask(rt, alloc, site, basis, worker, asked)?)
+    told(alloc, ask(rt, alloc, site, worker, asked)?)
 }

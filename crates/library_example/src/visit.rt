@@ -1,6 +1,6 @@
 // A volume from its mount to its end.
 ghost use Rattle.std.specs.Prelude.{◌≡◌, ◌≤◌, IfOk, length};
-ghost use Rattle.workers.specs.Works.{IsBasisOf, Rests};
+ghost use Rattle.workers.specs.Works.{Rests};
 ghost use Rattle.mount.specs.Serving.{ServesAt};
 ghost use Rattle.mount.specs.Workers.{AgreeAt};
 ghost use Rattle.library_example.specs.Calls.{IsBack};
@@ -36,24 +36,22 @@ fn run_all<R: Threads + Wait + Sync, D: Disk + Drop + Sync>(
     rt: &R,
     alloc: Global,
     site: &FlushSite<D>,
-    basis: Basis,
     seats: &mut [Seat<D>],
 )
-    requires site { ServesAt site.now.shared.now site.now.set.now site.now.nodes site.now.cores }
-    requires basis { IsBasisOf site.now.shared.now basis }
-    requires rest { AllRest site.now.shared.now site.now.set.now seats.old }
+    requires site { ServesAt site.now.table.now site.now.set.now site.now.cores }
+    requires rest { AllRest site.now.table.now site.now.set.now seats.old }
     ensures count { length seats.new ≡ length seats.old }
-    ensures back { AllAreBack site.now.shared.now site.now.set.now seats.old seats.new }
+    ensures back { AllAreBack site.now.table.now site.now.set.now seats.old seats.new }
 {
     thread::for_each_mut(
         rt,
         seats,
         MOST_THREADS,
         &|number, seat: &mut Seat<D>|
-            requires { ServesAt site.now.shared.now site.now.set.now site.now.nodes site.now.cores × IsBasisOf site.now.shared.now basis
-                × Rests site.now.shared.now (AgreeAt site.now.shared.now site.now.set.now) seat.now.worker }
-            ensures { IsBack site.entry.now.shared.now site.entry.now.set.now seat.entry.now.worker seat.exit.now.worker }
-        { seat.read = Some(run_errand(rt, alloc, site, basis, &mut seat.worker, number)) },
+            requires { ServesAt site.now.table.now site.now.set.now site.now.cores
+                × Rests site.now.table.now (AgreeAt site.now.table.now site.now.set.now) seat.now.worker }
+            ensures { IsBack site.entry.now.table.now site.entry.now.set.now seat.entry.now.worker seat.exit.now.worker }
+        { seat.read = Some(run_errand(rt, alloc, site, &mut seat.worker, number)) },
     );
 }
 
@@ -69,13 +67,7 @@ pub fn visit<R: Threads + Wait + Sync, D: Disk + Drop + Sync>(
 {
     let Mounted { volume, workers } = mount(alloc, disk, nodes)?;
     let mut seats = seated(alloc, workers)?;
-    run_all(
-        rt,
-        alloc,
-        &volume.site(),
-        volume.basis,
-        seats.as_mut_slice(),
-    );
+    run_all(rt, alloc, &volume.site(), seats.as_mut_slice());
     let (workers, read) = parted(alloc, seats)?;
     let (disk, history, turns) = unmount(volume, workers);
     Ok(Left {

@@ -1,4 +1,5 @@
 pub mod Cells
+pub mod AnsweredOn
 pub mod Shown
 pub mod Gained
 pub mod Faults

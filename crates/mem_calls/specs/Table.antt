@@ -7,6 +7,10 @@ use Rattle.mem_values.specs.Start.{FileState}
 use Rattle.mem_values.specs.Places.{node_count, place_count}
 use Rattle.mem_calls.specs.declared.numbers.Numbers.{Numbers}
 
+-- how many nodes a table may have
+abbrev pub nodes_of : FileState → ℕ
+nodes_of t = node_count t.first
+
 -- A table over a sound tree within its limits, of so many nodes, that has all cells.
 pub record IsFileTable (t : FileState) (nodes : ℕ) : Type 0 where
   pub sound : IsSoundTree t.first

@@ -2,14 +2,13 @@
 ghost use Rattle.std.specs.Prelude.{◌<◌, ◌≤◌};
 ghost use Rattle.tree_laws.specs.Step.{IsReadable};
 ghost use Rattle.stamp_table.specs.Table.{IsBetweenCalls};
-ghost use Rattle.mem_calls.specs.Table.{IsFileTable, AreNumbersOf};
 ghost use Rattle.mem_calls.specs.Calls.{IsPlainCall, IsPlainChange};
 ghost use Rattle.mem_calls.specs.Outcome.{ComesTo};
 
 use crate::holding::CALL_CELLS;
-use crate::numbers::Numbers;
+use crate::table::TreeTable;
 use crate::{link, list, look, make, read, rmdir, stat, trunc, unlink, write};
-use mem_values::{FileCore, FileShared};
+use mem_values::FileCore;
 use sfs_base::{Gate, NoMemory};
 use std::alloc::Global;
 use std::sync::Wait;
@@ -19,30 +18,26 @@ use tree_laws::{Call, Reply};
 pub fn call<R: Wait, G: Gate>(
     rt: &R,
     alloc: Global,
-    shared: &FileShared,
+    table: &TreeTable,
     core: &mut FileCore,
-    nodes: u32,
-    numbers: Numbers,
     call: Call,
     gate: &G,
 ) -> Result<Reply, NoMemory>
-    requires table { IsFileTable shared.now nodes }
-    requires core { IsBetweenCalls shared.now core.old }
-    requires numbers { AreNumbersOf shared.now.first numbers }
+    requires core { IsBetweenCalls table.now core.old }
     requires spare { 0 < core.old.spare }
     requires room { CALL_CELLS ≤ core.old.room }
     requires readable { IsReadable call }
     requires plain { IsPlainCall call }
-    ensures { ComesTo shared.now call core.old core.new result }
+    ensures { ComesTo table.now call core.old core.new result }
 {
     match call {
-        Call::Look { dir, name } => Ok(look(rt, alloc, shared, core, nodes, dir, name, gate)),
+        Call::Look { dir, name } => Ok(look(rt, alloc, table, core, dir, name, gate)),
         Call::Read { file, at, count } => {
-            read(rt, alloc, shared, core, nodes, file, at, count, gate)
+            read(rt, alloc, table, core, file, at, count, gate)
         }
-        Call::Stat { node } => Ok(stat(rt, alloc, shared, core, nodes, node, gate)),
-        Call::List { dir } => list(rt, alloc, shared, core, nodes, dir, gate),
-        call => change(rt, alloc, shared, core, nodes, numbers, call, gate),
+        Call::Stat { node } => Ok(stat(rt, alloc, table, core, node, gate)),
+        Call::List { dir } => list(rt, alloc, table, core, dir, gate),
+        call => change(rt, alloc, table, core, call, gate),
     }
 }
 
@@ -50,36 +45,32 @@ pub fn call<R: Wait, G: Gate>(
 fn change<R: Wait, G: Gate>(
     rt: &R,
     alloc: Global,
-    shared: &FileShared,
+    table: &TreeTable,
     core: &mut FileCore,
-    nodes: u32,
-    numbers: Numbers,
     call: Call,
     gate: &G,
 ) -> Result<Reply, NoMemory>
-    requires table { IsFileTable shared.now nodes }
-    requires core { IsBetweenCalls shared.now core.old }
-    requires numbers { AreNumbersOf shared.now.first numbers }
+    requires core { IsBetweenCalls table.now core.old }
     requires spare { 0 < core.old.spare }
     requires room { CALL_CELLS ≤ core.old.room }
     requires change { IsPlainChange call }
-    ensures { ComesTo shared.now call core.old core.new result }
+    ensures { ComesTo table.now call core.old core.new result }
 {
     match call {
         Call::Make { dir, name, kind } => {
             make(
-                rt, alloc, shared, core, nodes, numbers, dir, name, kind, gate,
+                rt, alloc, table, core, dir, name, kind, gate,
             )
         }
         Call::Link { file, dir, name } => {
-            link(rt, alloc, shared, core, nodes, file, dir, name, gate)
+            link(rt, alloc, table, core, file, dir, name, gate)
         }
-        Call::Unlink { dir, name } => unlink(rt, alloc, shared, core, nodes, dir, name, gate),
-        Call::Rmdir { dir, name } => rmdir(rt, alloc, shared, core, nodes, dir, name, gate),
+        Call::Unlink { dir, name } => unlink(rt, alloc, table, core, dir, name, gate),
+        Call::Rmdir { dir, name } => rmdir(rt, alloc, table, core, dir, name, gate),
         Call::Write { file, at, bytes } => {
-            write(rt, alloc, shared, core, nodes, file, at, bytes, gate)
+            write(rt, alloc, table, core, file, at, bytes, gate)
         }
-        Call::Trunc { file, size } => trunc(rt, alloc, shared, core, nodes, file, size, gate),
+        Call::Trunc { file, size } => trunc(rt, alloc, table, core, file, size, gate),
         _ => unreachable!(),
     }
 }

@@ -16,6 +16,7 @@ use crate::holding::{
 };
 use crate::making::{finish_make, make_in};
 use crate::numbers::Numbers;
+use crate::table::TreeTable;
 use mem_values::{CellId, FileCore, FileShared};
 use sfs_base::{Gate, Kind, Name, NoMemory, NodeId, bucket_of};
 use std::alloc::Global;
@@ -151,22 +152,21 @@ fn hold_creation<R: Wait, G: Gate>(
 pub fn make<R: Wait, G: Gate>(
     rt: &R,
     alloc: Global,
-    shared: &FileShared,
+    table: &TreeTable,
     core: &mut FileCore,
-    nodes: u32,
-    numbers: Numbers,
     dir: NodeId,
     name: Name,
     kind: Kind,
     gate: &G,
 ) -> Result<Reply, NoMemory>
-    requires table { IsFileTable shared.now nodes }
-    requires core { IsBetweenCalls shared.now core.old }
-    requires numbers { AreNumbersOf shared.now.first numbers }
+    requires core { IsBetweenCalls table.now core.old }
     requires spare { 0 < core.old.spare }
     requires room { CALL_CELLS ≤ core.old.room }
-    ensures { ComesTo shared.now (Call.Make dir name kind) core.old core.new result }
+    ensures { ComesTo table.now (Call.Make dir name kind) core.old core.new result }
 {
+    let shared = table.shared();
+    let nodes = table.nodes();
+    let numbers = table.numbers();
     let next = hold_creation(rt, shared, core, nodes, numbers, dir, &name, kind, gate);
     match make_in(core, nodes, dir, &name, kind, next) {
         Ok(node) => {

@@ -18,6 +18,7 @@ use crate::finish::finish;
 use crate::held::file_fault_in;
 use crate::holding::{CALL_CELLS, hold_file, hold_part};
 use crate::short::Short;
+use crate::table::TreeTable;
 use crate::taking::{add_entry, put, take_file};
 use mem_values::{Cell, CellId, FileCore, FileShared};
 use sfs_base::{Chunk, Gate, NoMemory, NodeId};
@@ -93,19 +94,19 @@ fn finish_edit(
 fn edit_file<R: Wait, G: Gate>(
     rt: &R,
     alloc: Global,
-    shared: &FileShared,
+    table: &TreeTable,
     core: &mut FileCore,
-    nodes: u32,
     file: NodeId,
     edit: FileEdit,
     gate: &G,
 ) -> Result<Reply, NoMemory>
-    requires table { IsFileTable shared.now nodes }
-    requires core { IsBetweenCalls shared.now core.old }
+    requires core { IsBetweenCalls table.now core.old }
     requires spare { 0 < core.old.spare }
     requires room { CALL_CELLS ≤ core.old.room }
-    ensures { ComesTo shared.now (edit_call file edit) core.old core.new result }
+    ensures { ComesTo table.now (edit_call file edit) core.old core.new result }
 {
+    let shared = table.shared();
+    let nodes = table.nodes();
     hold_file(rt, shared, core, nodes, file);
     hold_part(rt, shared, core, nodes, gate);
     match edit_answer(core, nodes, file, &edit) {
@@ -126,41 +127,37 @@ fn edit_file<R: Wait, G: Gate>(
 pub fn write<R: Wait, G: Gate>(
     rt: &R,
     alloc: Global,
-    shared: &FileShared,
+    table: &TreeTable,
     core: &mut FileCore,
-    nodes: u32,
     file: NodeId,
     at: u64,
     bytes: Chunk,
     gate: &G,
 ) -> Result<Reply, NoMemory>
-    requires table { IsFileTable shared.now nodes }
-    requires core { IsBetweenCalls shared.now core.old }
+    requires core { IsBetweenCalls table.now core.old }
     requires spare { 0 < core.old.spare }
     requires room { CALL_CELLS ≤ core.old.room }
-    ensures { ComesTo shared.now (Call.Write file at bytes) core.old core.new result }
+    ensures { ComesTo table.now (Call.Write file at bytes) core.old core.new result }
 {
     let edit = FileEdit::Put { at, bytes };
-    edit_file(rt, alloc, shared, core, nodes, file, edit, gate)
+    edit_file(rt, alloc, table, core, file, edit, gate)
 }
 
 /// Gives a file this size. It holds the same cells as `write`. It may wait. Only want of memory refuses it.
 pub fn trunc<R: Wait, G: Gate>(
     rt: &R,
     alloc: Global,
-    shared: &FileShared,
+    table: &TreeTable,
     core: &mut FileCore,
-    nodes: u32,
     file: NodeId,
     size: u64,
     gate: &G,
 ) -> Result<Reply, NoMemory>
-    requires table { IsFileTable shared.now nodes }
-    requires core { IsBetweenCalls shared.now core.old }
+    requires core { IsBetweenCalls table.now core.old }
     requires spare { 0 < core.old.spare }
     requires room { CALL_CELLS ≤ core.old.room }
-    ensures { ComesTo shared.now (Call.Trunc file size) core.old core.new result }
+    ensures { ComesTo table.now (Call.Trunc file size) core.old core.new result }
 {
     let edit = FileEdit::Resize { size };
-    edit_file(rt, alloc, shared, core, nodes, file, edit, gate)
+    edit_file(rt, alloc, table, core, file, edit, gate)
 }

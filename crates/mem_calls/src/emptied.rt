@@ -24,6 +24,7 @@ use crate::ready::make_ready;
 use crate::rows::{remove_row, removed_row};
 use crate::standing::place_directory;
 use crate::status::directory_counts;
+use crate::table::TreeTable;
 use crate::taking::{put_part, with_entry};
 use mem_values::{CellId, FileCore, FileShared};
 use sfs_base::{Gate, Kind, Name, NoMemory, NodeId, bucket_of};
@@ -192,19 +193,19 @@ fn finish_rmdir(
 pub fn rmdir<R: Wait, G: Gate>(
     rt: &R,
     alloc: Global,
-    shared: &FileShared,
+    table: &TreeTable,
     core: &mut FileCore,
-    nodes: u32,
     dir: NodeId,
     name: Name,
     gate: &G,
 ) -> Result<Reply, NoMemory>
-    requires table { IsFileTable shared.now nodes }
-    requires core { IsBetweenCalls shared.now core.old }
+    requires core { IsBetweenCalls table.now core.old }
     requires spare { 0 < core.old.spare }
     requires room { CALL_CELLS ≤ core.old.room }
-    ensures { ComesTo shared.now (Call.Rmdir dir name) core.old core.new result }
+    ensures { ComesTo table.now (Call.Rmdir dir name) core.old core.new result }
 {
+    let shared = table.shared();
+    let nodes = table.nodes();
     hold_ending(rt, shared, core, nodes, dir, &name);
     hold_part(rt, shared, core, nodes, gate);
     match rmdir_in(core, nodes, dir, &name) {

@@ -1,6 +1,8 @@
 // Cells that a core holds for a call, places ascending, its own log last.
 ghost use Rattle.std.specs.Prelude.{◌≡◌, ◌+◌, ◌*◌, ◌<◌, ◌≤◌, [], length, IsSome};
+ghost use Rattle.tree_laws.specs.History.{IsLegal};
 ghost use Rattle.stamp_table.specs.Ascending.{LiesAbove};
+ghost use Rattle.stamp_table.specs.Events.{calls_in};
 ghost use Rattle.mem_values.specs.Start.{given_by};
 ghost use Rattle.mem_values.specs.Places.{cell_place, IsCell};
 ghost use Rattle.mem_calls.specs.Table.{IsFileTable};
@@ -211,6 +213,7 @@ pub fn hold_part<R: Wait, G: Gate>(
     ensures still { StillHolds nodes core.old core.new }
     ensures part { HoldsPart nodes core.new }
     ensures met { CanMeet core.new }
+    ensures legal { IsLegal core.new.view.first (calls_in core.new.view.seen) }
 {
     let own = core.number();
     gate.at(own, Place::Held);

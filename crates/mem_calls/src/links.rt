@@ -19,6 +19,7 @@ use crate::finish::finish;
 use crate::held::{bucket_in, directory_fault_in, file_fault_in, file_in};
 use crate::holding::{CALL_CELLS, hold_directory, hold_file, hold_more, hold_part};
 use crate::rows::{added_row, raise_links};
+use crate::table::TreeTable;
 use crate::taking::{put_bucket, put_part, with_entry};
 use mem_values::{CellId, FileCore, FileShared};
 use sfs_base::{Gate, Kind, Name, NoMemory, NodeId, bucket_of};
@@ -30,7 +31,7 @@ use tree_laws::{Call, Code, Reply};
 const MOST_LINKS: u32 = 65_535;
 
 /// How many rows a bucket has at most.
-pub(crate) const BUCKET_ROWS: usize = 4096;
+pub const BUCKET_ROWS: usize = 4096;
 
 // Gives a file a further row that nothing refuses but want of memory.
 fn finish_link(
@@ -149,20 +150,20 @@ fn hold_link<R: Wait>(
 pub fn link<R: Wait, G: Gate>(
     rt: &R,
     alloc: Global,
-    shared: &FileShared,
+    table: &TreeTable,
     core: &mut FileCore,
-    nodes: u32,
     file: NodeId,
     dir: NodeId,
     name: Name,
     gate: &G,
 ) -> Result<Reply, NoMemory>
-    requires table { IsFileTable shared.now nodes }
-    requires core { IsBetweenCalls shared.now core.old }
+    requires core { IsBetweenCalls table.now core.old }
     requires spare { 0 < core.old.spare }
     requires room { CALL_CELLS ≤ core.old.room }
-    ensures { ComesTo shared.now (Call.Link file dir name) core.old core.new result }
+    ensures { ComesTo table.now (Call.Link file dir name) core.old core.new result }
 {
+    let shared = table.shared();
+    let nodes = table.nodes();
     hold_link(rt, shared, core, nodes, file, dir, &name);
     hold_part(rt, shared, core, nodes, gate);
     match link_in(core, nodes, file, dir, &name) {

@@ -7,7 +7,6 @@ ghost use Rattle.tree_laws.specs.Tree.{names_of};
 ghost use Rattle.tree_laws.specs.Verdict.{verdict, answered};
 ghost use Rattle.stamp_table.specs.Table.{IsBetweenCalls};
 ghost use Rattle.mem_values.specs.Places.{node_count};
-ghost use Rattle.mem_calls.specs.Table.{IsFileTable};
 ghost use Rattle.mem_calls.specs.Held.{InEach};
 ghost use Rattle.mem_calls.specs.Sums.{HoldsBuckets, HoldsNode};
 ghost use Rattle.mem_calls.specs.Listed.{kinds_in, kinds_held, join_until, AreInNameOrder};
@@ -16,7 +15,8 @@ ghost use Rattle.mem_calls.specs.Outcome.{IsAnswered, IsRefusedMemory, ComesTo};
 use crate::finish::finish;
 use crate::held::{bucket_in, directory_fault_in};
 use crate::holding::{CALL_CELLS, hold_node, hold_part, let_all_go};
-use mem_values::{Bucket, FileCore, FileShared};
+use crate::table::TreeTable;
+use mem_values::{Bucket, FileCore};
 use sfs_base::{Gate, NoMemory, NodeId};
 use std::alloc::Global;
 use std::sync::Wait;
@@ -98,18 +98,18 @@ fn list_in(
 pub fn list<R: Wait, G: Gate>(
     rt: &R,
     alloc: Global,
-    shared: &FileShared,
+    table: &TreeTable,
     core: &mut FileCore,
-    nodes: u32,
     dir: NodeId,
     gate: &G,
 ) -> Result<Reply, NoMemory>
-    requires table { IsFileTable shared.now nodes }
-    requires core { IsBetweenCalls shared.now core.old }
+    requires core { IsBetweenCalls table.now core.old }
     requires spare { 0 < core.old.spare }
     requires room { CALL_CELLS ≤ core.old.room }
-    ensures { ComesTo shared.now (Call.List dir) core.old core.new result }
+    ensures { ComesTo table.now (Call.List dir) core.old core.new result }
 {
+    let shared = table.shared();
+    let nodes = table.nodes();
     hold_node(rt, shared, core, nodes, dir);
     hold_part(rt, shared, core, nodes, gate);
     match list_in(alloc, core, nodes, dir) {

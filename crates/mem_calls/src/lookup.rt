@@ -4,7 +4,6 @@ ghost use Rattle.sfs_base.specs.Name.{bucket};
 ghost use Rattle.tree_laws.specs.Verdict.{verdict, answered};
 ghost use Rattle.stamp_table.specs.Table.{IsBetweenCalls};
 ghost use Rattle.mem_values.specs.Places.{node_count};
-ghost use Rattle.mem_calls.specs.Table.{IsFileTable};
 ghost use Rattle.mem_calls.specs.Held.{HoldsDirectory, InEach};
 ghost use Rattle.mem_calls.specs.Reply.{reply_of};
 ghost use Rattle.mem_calls.specs.Outcome.{IsAnswered};
@@ -13,7 +12,8 @@ use crate::finish::finish;
 use crate::held::{bucket_in, directory_fault_in};
 use crate::holding::{CALL_CELLS, hold_directory, hold_part};
 use crate::short::Short;
-use mem_values::{FileCore, FileShared};
+use crate::table::TreeTable;
+use mem_values::FileCore;
 use sfs_base::{Gate, Name, NodeId, bucket_of};
 use std::alloc::Global;
 use std::sync::Wait;
@@ -46,19 +46,19 @@ fn look_in(core: &FileCore, nodes: u32, dir: NodeId, name: &Name) -> Short
 pub fn look<R: Wait, G: Gate>(
     rt: &R,
     alloc: Global,
-    shared: &FileShared,
+    table: &TreeTable,
     core: &mut FileCore,
-    nodes: u32,
     dir: NodeId,
     name: Name,
     gate: &G,
 ) -> Reply
-    requires table { IsFileTable shared.now nodes }
-    requires core { IsBetweenCalls shared.now core.old }
+    requires core { IsBetweenCalls table.now core.old }
     requires spare { 0 < core.old.spare }
     requires room { CALL_CELLS ≤ core.old.room }
-    ensures { IsAnswered shared.now (Call.Look dir name) result core.old core.new }
+    ensures { IsAnswered table.now (Call.Look dir name) result core.old core.new }
 {
+    let shared = table.shared();
+    let nodes = table.nodes();
     hold_directory(rt, shared, core, nodes, dir, bucket_of(&name));
     hold_part(rt, shared, core, nodes, gate);
     let answer = look_in(core, nodes, dir, &name);

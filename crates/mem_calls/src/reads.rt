@@ -3,15 +3,15 @@ ghost use Rattle.std.specs.Prelude.{◌≡◌, ◌<◌, ◌≤◌, take, drop, I
 ghost use Rattle.tree_laws.specs.Verdict.{verdict, answered};
 ghost use Rattle.stamp_table.specs.Table.{IsBetweenCalls};
 ghost use Rattle.mem_values.specs.Places.{node_count};
-ghost use Rattle.mem_calls.specs.Table.{IsFileTable};
 ghost use Rattle.mem_calls.specs.Held.{HoldsFile, InEach};
 ghost use Rattle.mem_calls.specs.Outcome.{IsAnswered, IsRefusedMemory, ComesTo};
 
 use crate::finish::finish;
 use crate::held::{file_fault_in, file_in};
 use crate::holding::{CALL_CELLS, hold_file, hold_part, let_all_go};
+use crate::table::TreeTable;
 use mem_files::FileBytes;
-use mem_values::{FileCore, FileShared};
+use mem_values::FileCore;
 use sfs_base::{Chunk, Gate, NoMemory, NodeId};
 use std::alloc::Global;
 use std::sync::Wait;
@@ -60,21 +60,21 @@ fn read_in(
 pub fn read<R: Wait, G: Gate>(
     rt: &R,
     alloc: Global,
-    shared: &FileShared,
+    table: &TreeTable,
     core: &mut FileCore,
-    nodes: u32,
     file: NodeId,
     at: u64,
     count: u32,
     gate: &G,
 ) -> Result<Reply, NoMemory>
-    requires table { IsFileTable shared.now nodes }
-    requires core { IsBetweenCalls shared.now core.old }
+    requires core { IsBetweenCalls table.now core.old }
     requires spare { 0 < core.old.spare }
     requires room { CALL_CELLS ≤ core.old.room }
     requires count { count ≤ 65536 }
-    ensures { ComesTo shared.now (Call.Read file at count) core.old core.new result }
+    ensures { ComesTo table.now (Call.Read file at count) core.old core.new result }
 {
+    let shared = table.shared();
+    let nodes = table.nodes();
     hold_file(rt, shared, core, nodes, file);
     hold_part(rt, shared, core, nodes, gate);
     match read_in(alloc, core, nodes, file, at, count) {

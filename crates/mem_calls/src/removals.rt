@@ -19,6 +19,7 @@ use crate::held::{bucket_in, directory_fault_in, is_standing};
 use crate::holding::{CALL_CELLS, hold_directory, hold_more, hold_part, let_all_go};
 use crate::ready::make_ready;
 use crate::rows::{lower_links, remove_row, removed_row};
+use crate::table::TreeTable;
 use crate::taking::{put, with_entry};
 use mem_values::{Cell, CellId, FileCore, FileShared};
 use sfs_base::{Gate, Kind, Name, NoMemory, NodeId, bucket_of};
@@ -184,19 +185,19 @@ fn finish_unlink(
 pub fn unlink<R: Wait, G: Gate>(
     rt: &R,
     alloc: Global,
-    shared: &FileShared,
+    table: &TreeTable,
     core: &mut FileCore,
-    nodes: u32,
     dir: NodeId,
     name: Name,
     gate: &G,
 ) -> Result<Reply, NoMemory>
-    requires table { IsFileTable shared.now nodes }
-    requires core { IsBetweenCalls shared.now core.old }
+    requires core { IsBetweenCalls table.now core.old }
     requires spare { 0 < core.old.spare }
     requires room { CALL_CELLS ≤ core.old.room }
-    ensures { ComesTo shared.now (Call.Unlink dir name) core.old core.new result }
+    ensures { ComesTo table.now (Call.Unlink dir name) core.old core.new result }
 {
+    let shared = table.shared();
+    let nodes = table.nodes();
     hold_named(rt, shared, core, nodes, dir, &name);
     hold_part(rt, shared, core, nodes, gate);
     match unlink_in(core, nodes, dir, &name) {

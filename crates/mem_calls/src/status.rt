@@ -3,7 +3,6 @@ ghost use Rattle.std.specs.Prelude.{◌≡◌, ◌+◌, ◌<◌, ◌≤◌};
 ghost use Rattle.tree_laws.specs.Verdict.{verdict, answered};
 ghost use Rattle.stamp_table.specs.Table.{IsBetweenCalls};
 ghost use Rattle.mem_values.specs.Places.{node_count};
-ghost use Rattle.mem_calls.specs.Table.{IsFileTable};
 ghost use Rattle.mem_calls.specs.Held.{InEach, CanMeet};
 ghost use Rattle.mem_calls.specs.Sums.{sum_until, rows_held, directories_held, HoldsBuckets, AreSmall, HoldsNode};
 ghost use Rattle.mem_calls.specs.Reply.{reply_of};
@@ -13,7 +12,8 @@ use crate::finish::finish;
 use crate::held::{bucket_in, file_in, is_standing};
 use crate::holding::{CALL_CELLS, hold_node, hold_part};
 use crate::short::Short;
-use mem_values::{FileCore, FileShared};
+use crate::table::TreeTable;
+use mem_values::FileCore;
 use sfs_base::{Gate, Kind, NodeId};
 use std::alloc::Global;
 use std::sync::Wait;
@@ -74,18 +74,18 @@ fn stat_in(core: &FileCore, nodes: u32, node: NodeId) -> Short
 pub fn stat<R: Wait, G: Gate>(
     rt: &R,
     alloc: Global,
-    shared: &FileShared,
+    table: &TreeTable,
     core: &mut FileCore,
-    nodes: u32,
     node: NodeId,
     gate: &G,
 ) -> Reply
-    requires table { IsFileTable shared.now nodes }
-    requires core { IsBetweenCalls shared.now core.old }
+    requires core { IsBetweenCalls table.now core.old }
     requires spare { 0 < core.old.spare }
     requires room { CALL_CELLS ≤ core.old.room }
-    ensures { IsAnswered shared.now (Call.Stat node) result core.old core.new }
+    ensures { IsAnswered table.now (Call.Stat node) result core.old core.new }
 {
+    let shared = table.shared();
+    let nodes = table.nodes();
     hold_node(rt, shared, core, nodes, node);
     hold_part(rt, shared, core, nodes, gate);
     let answer = stat_in(core, nodes, node);

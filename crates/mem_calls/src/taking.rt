@@ -131,7 +131,7 @@ pub(crate) fn put_part(core: &mut FileCore, nodes: u32, part: Box<PartCell>)
 }
 
 /// Puts a bucket into its cell.
-pub(crate) fn put_bucket(
+pub fn put_bucket(
     core: &mut FileCore,
     nodes: u32,
     node: NodeId,

@@ -8,7 +8,7 @@ ghost use Rattle.mem_rename.specs.Ready.{bucket_or};
 
 use crate::shifts::Shift;
 use crate::sides::Move;
-use mem_calls::{put, take_bucket, take_file};
+use mem_calls::{put, put_bucket, take_bucket, take_file};
 use mem_values::{Bucket, Cell, CellId, FileCell, FileCore};
 use sfs_base::{Name, NoMemory, NodeId, bucket_of};
 use tree_laws::NameMap;
@@ -144,11 +144,7 @@ pub(crate) fn add_row(
     let number = bucket_of(&move_.to_name);
     let taken = take_bucket(core, nodes, node, number);
     let (bucket, outcome) = with_row(taken, &move_.to_name, shift, row);
-    let cell = CellId::Bucket {
-        node,
-        bucket: number,
-    };
-    put(core, nodes, cell, Cell::Bucket { bucket });
+    put_bucket(core, nodes, node, number, bucket);
     outcome
 }
 
@@ -170,11 +166,7 @@ pub(crate) fn remove_row(core: &mut FileCore, nodes: u32, move_: &Move)
     let node = move_.directory;
     let number = bucket_of(&move_.name);
     let bucket = without_row(take_bucket(core, nodes, node, number), &move_.name);
-    let cell = CellId::Bucket {
-        node,
-        bucket: number,
-    };
-    put(core, nodes, cell, Cell::Bucket { bucket });
+    put_bucket(core, nodes, node, number, bucket);
 }
 
 // The bucket of a directory that stands here.
@@ -192,11 +184,7 @@ fn stand(core: &mut FileCore, nodes: u32, node: NodeId, number: u8, stands: Opti
     ensures { PutsBucket nodes node number (standing stands) core.old core.new }
 {
     let bucket = standing(take_bucket(core, nodes, node, number), stands);
-    let cell = CellId::Bucket {
-        node,
-        bucket: number,
-    };
-    put(core, nodes, cell, Cell::Bucket { bucket });
+    put_bucket(core, nodes, node, number, bucket);
 }
 
 /// The eight buckets of a directory that may be there, which are held, say that it stands here.

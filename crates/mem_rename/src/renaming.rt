@@ -12,7 +12,7 @@ use crate::moving::move_child;
 use crate::settling::{decide_in, hold_for_rename};
 use crate::shifts::Copied;
 use crate::sides::Move;
-use mem_calls::{answer_call, directory_fault_in, hold_directory, hold_part};
+use mem_calls::{TreeTable, answer_call, directory_fault_in, hold_directory, hold_part};
 use mem_values::{FileCore, FileShared};
 use sfs_base::{Gate, NoMemory, bucket_of};
 use std::alloc::Global;
@@ -70,18 +70,18 @@ fn answer_outside<R: Wait, G: Gate>(
 pub fn rename<R: Wait, G: Gate>(
     rt: &R,
     alloc: Global,
-    shared: &FileShared,
+    table: &TreeTable,
     core: &mut FileCore,
-    nodes: u32,
     move_: Move,
     gate: &G,
 ) -> Result<Reply, NoMemory>
-    requires table { IsFileTable shared.now nodes }
-    requires core { IsBetweenCalls shared.now core.old }
+    requires core { IsBetweenCalls table.now core.old }
     requires spare { 0 < core.old.spare }
     requires room { RENAME_CELLS ≤ core.old.room }
-    ensures { ComesTo shared.now (rename_call move_) core.old core.new result }
+    ensures { ComesTo table.now (rename_call move_) core.old core.new result }
 {
+    let shared = table.shared();
+    let nodes = table.nodes();
     if nodes <= move_.directory.0 || nodes <= move_.to_directory.0 {
         return Ok(answer_outside(rt, alloc, shared, core, nodes, move_, gate));
     }

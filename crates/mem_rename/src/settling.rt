@@ -1,14 +1,9 @@
 // A core comes to hold all that its rename asks for.
-ghost use Rattle.std.specs.Prelude.{◌≡◌, ◌+◌, ◌*◌, ◌<◌, ◌≤◌, MatchResult};
-ghost use Rattle.tree_laws.specs.History.{IsLegal};
-ghost use Rattle.stamp_table.specs.Ascending.{LiesAbove};
-ghost use Rattle.stamp_table.specs.Events.{calls_in};
+ghost use Rattle.std.specs.Prelude.{◌≡◌, ◌≤◌, MatchResult};
 ghost use Rattle.stamp_table.specs.Table.{IsBetweenCalls};
 ghost use Rattle.mem_values.specs.Start.{given_by};
 ghost use Rattle.mem_calls.specs.Table.{IsFileTable};
-ghost use Rattle.mem_calls.specs.Held.{HoldsPart};
 ghost use Rattle.mem_calls.specs.Outcome.{IsRefusedMemory};
-ghost use Rattle.mem_calls.specs.Working.{IsWorking, WorksOn, StillHolds};
 ghost use Rattle.mem_rename.specs.Sights.{rename_by};
 ghost use Rattle.mem_rename.specs.Decisions.{verdict_of};
 ghost use Rattle.mem_rename.specs.Holding.{HoldsCells};
@@ -22,9 +17,9 @@ use crate::renaming::RENAME_CELLS;
 use crate::rounds::{give_up, hold_round};
 use crate::sides::Move;
 use crate::sights::{next_plan, reads_in};
-use mem_calls::hold_more;
-use mem_values::{CellId, FileCore, FileShared};
-use sfs_base::{Gate, NoMemory, NodeId, Place};
+use mem_calls::hold_part;
+use mem_values::{FileCore, FileShared};
+use sfs_base::{Gate, NoMemory, NodeId};
 use std::alloc::Global;
 use std::sync::Wait;
 
@@ -34,30 +29,6 @@ pub(crate) struct Settled {
     pub(crate) plan: Plan,
     pub(crate) look: Look,
     pub(crate) above: Vec<NodeId>,
-}
-
-// Holds the own log, above all other cells.
-fn hold_log<R: Wait, G: Gate>(
-    rt: &R,
-    shared: &FileShared,
-    core: &mut FileCore,
-    nodes: u32,
-    gate: &G,
-)
-    requires table { IsFileTable shared.now nodes }
-    requires work { IsWorking (given_by shared.now) shared.now core.old }
-    requires below { LiesAbove (32 + 10 * nodes) core.old.view.held }
-    requires room { 0 < core.old.room }
-    ensures work { IsWorking (given_by shared.now) shared.now core.new }
-    ensures on { WorksOn core.old core.new }
-    ensures still { StillHolds nodes core.old core.new }
-    ensures part { HoldsPart nodes core.new }
-    ensures legal { IsLegal core.new.view.first (calls_in core.new.view.seen) }
-{
-    let own = core.number();
-    gate.at(own, Place::Held);
-    hold_more(rt, shared, core, nodes, CellId::Part { core: own });
-    gate.at(own, Place::Part);
 }
 
 /// Holds all that a rename asks for by what is held: it begins again as long as that is more than the plan has, or the way up broke off.
@@ -87,7 +58,7 @@ pub(crate) fn hold_for_rename<R: Wait, G: Gate>(
         };
         let (look, next) = next_plan(core, nodes, move_, plan);
         if next.is(plan) {
-            hold_log(rt, shared, core, nodes, gate);
+            hold_part(rt, shared, core, nodes, gate);
             return Ok(Settled { plan, look, above });
         }
         give_up(shared, core);

@@ -13,12 +13,9 @@ ghost use Rattle.mem_rename.specs.Ready.{bucket_or, links_if, buckets_held, is_e
 use crate::looking::{Look, Reads, look_at};
 use crate::plans::{Plan, plan_for};
 use crate::sides::Move;
-use mem_calls::{bucket_in, file_in};
+use mem_calls::{BUCKET_ROWS, bucket_in, file_in};
 use mem_values::FileCore;
 use sfs_base::{NodeId, bucket_of};
-
-// How many rows a bucket has at most.
-const BUCKET_ROWS: usize = 4096;
 
 // What the two buckets tell that are held.
 fn look_in(core: &FileCore, nodes: u32, move_: &Move) -> Look

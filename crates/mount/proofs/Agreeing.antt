@@ -1,9 +1,10 @@
 -- A core of a volume and its pen go on agreeing.
-use Rattle.std.proofs.Common.{◌∙◌, ℕ, List, inl, inr, sym, ap, subst}
+use Rattle.std.proofs.Common.{◌∙◌, ◌≤◌, ◌-◌, ◌^◌, ℕ, List, inl, inr, sym, ap, subst}
 use Rattle.tree_laws.specs.declared.reply.Reply.{Reply}
 use Rattle.stamp_table.specs.Hand.{Desk}
 use Rattle.stamp_table.specs.Table.{TableState}
 use Rattle.mem_values.specs.Start.{FileState}
+use Rattle.mem_calls.specs.Table.{nodes_of}
 use Rattle.disk_box.specs.declared.key.BoxKey.{BoxKey}
 use Rattle.disk_box.specs.Pens.{PenGoes, PenHand}
 use Rattle.journal_set.specs.Ready.{IsReady}
@@ -24,18 +25,18 @@ pub record ServesOne {D : Type 0} (set : TableState (BoxKey D)) (at : FlushPlace
   pub comes : FlushComes at.t at.nodes at.node at.before at.after at.pen at.done given
 
 -- where fsyncs are served by a pen of the journals
-pub site_at : {D : Type 0} (shared : FileState) (set : TableState (BoxKey D)) (nodes cores : ℕ) (pen : PenHand D) → ServesAt shared set nodes cores
-    → IsReady set pen → IsSite shared nodes cores pen.table.given
-site_at shared set nodes cores pen serves ready =
-    subst (λ (k : BoxKey _). IsSite shared nodes cores k) (sym (ap (λ (d : Desk (BoxKey _)). d.given) ready.outside.table_is)) serves.site
+pub site_at : {D : Type 0} (shared : FileState) (set : TableState (BoxKey D)) (cores : ℕ) (pen : PenHand D) → ServesAt shared set cores
+    → IsReady set pen → IsSite shared (nodes_of shared) cores pen.table.given
+site_at shared set cores pen serves ready =
+    subst (λ (k : BoxKey _). IsSite shared (nodes_of shared) cores k) (sym (ap (λ (d : Desk (BoxKey _)). d.given) ready.outside.table_is)) serves.site
 
 -- it leaves them in agreement
-pub served_agrees : {D : Type 0} (set : TableState (BoxKey D)) (at : FlushPlace D) (given : Reply) → ServesAt at.t set at.nodes at.cores
-    → AgreeAt at.t set at.before at.pen → ServesOne set at given → AgreeAt at.t set at.after at.done
-served_agrees {D = D} set at given serves agrees served =
+pub served_agrees : {D : Type 0} (set : TableState (BoxKey D)) (at : FlushPlace D) (given : Reply) → IsSite at.t at.nodes at.cores at.pen.table.given
+    → at.nodes ≤ 2 ^ 32 - 1 → AgreeAt at.t set at.before at.pen → ServesOne set at given → AgreeAt at.t set at.after at.done
+served_agrees {D = D} set at given site few agrees served =
     let makes : MakesFlush at given = record {
-      site = site_at at.t set at.nodes at.cores at.pen serves agrees.ready;
-      few = serves.few;
+      site = site;
+      few = few;
       goes = served.goes;
       comes = served.comes;
     } in

@@ -28,9 +28,9 @@ new_ready t core pen new = record {
 
 -- Cores and pens from a number on, with which a volume begins.
 record BeginFrom {D : Type 0} (volume : Volume D) (number : ℕ) (cores : List FileHand) (pens : List (PenHand D)) : Type 0 where
-  pub idle : AreIdleFrom volume.shared.table volume.shared.cores number cores
-  pub new : AreNew volume.shared.first cores
-  pub between : All (IsBetweenCalls volume.shared) cores
+  pub idle : AreIdleFrom volume.table.table volume.table.cores number cores
+  pub new : AreNew volume.table.first cores
+  pub between : All (IsBetweenCalls volume.table) cores
   pub pens_idle : AreIdleFrom volume.set.table volume.set.cores number pens
   pub pens_new : (k : ℕ) (pen : PenHand D) → slice_get pens k ≡ Some pen → IsNewPen volume.set (number + k) pen
   pub leads : number ≡ 0 → first_leads pens ≡ true
@@ -59,12 +59,12 @@ first_agrees {D = D} volume number core cores pen pens begin =
       cores = begin.pens_idle.0.cores_are;
       leads = λ first. begin.leads (sym begin.idle.0.number_is ∙ first);
       fsyncs = [];
-      agree = new_pairs_agree D volume.shared volume.set core pen begin.new.0.none_entered begin.new.0.none_mine new;
+      agree = new_pairs_agree D volume.table volume.set core pen begin.new.0.none_entered begin.new.0.none_mine new;
     }
 
 -- workers that begin rest
 begun_rest : {D : Type 0} (volume : Volume D) (number : ℕ) (cores : List FileHand) (pens : List (PenHand D)) → BeginFrom volume number cores pens
-    → All (Rests volume.shared (PairAgrees volume)) (workers_begun cores pens)
+    → All (Rests volume.table (PairAgrees volume)) (workers_begun cores pens)
 begun_rest volume number [] pens begin k d within = absurd (omega (arith, within))
 begun_rest volume number (core ∷ cores) [] begin k d within = absurd (omega (arith, within))
 begun_rest volume number (core ∷ cores) (pen ∷ pens) begin zero d within = record {
@@ -91,9 +91,9 @@ cores_begun (core ∷ cores) (pen ∷ pens) same = ap (λ l. core ∷ l) (cores_
 
 -- What the cores and the pens are with which a volume begins.
 pub record BeginsWith {D : Type 0} (volume : Volume D) (cores : List FileHand) (pens : List (PenHand D)) : Type 0 where
-  pub all : AreAllCores volume.shared cores
-  pub new : AreNew volume.shared.first cores
-  pub between : All (IsBetweenCalls volume.shared) cores
+  pub all : AreAllCores volume.table cores
+  pub new : AreNew volume.table.first cores
+  pub between : All (IsBetweenCalls volume.table) cores
   pub pens_new : AreNewPens volume.set pens
   pub same : length pens ≡ length cores
 
@@ -101,7 +101,7 @@ pub record BeginsWith {D : Type 0} (volume : Volume D) (cores : List FileHand) (
 pub workers_are : {D : Type 0} (volume : Volume D) (cores : List FileHand) (pens : List (PenHand D)) → BeginsWith volume cores pens
     → AreWorkers volume (workers_begun cores pens)
 workers_are volume cores pens begins = record {
-  all = subst (AreAllCores volume.shared) (sym (cores_begun cores pens begins.same)) begins.all;
+  all = subst (AreAllCores volume.table) (sym (cores_begun cores pens begins.same)) begins.all;
   rest = begun_rest volume 0 cores pens (record {
     idle = begins.all.ready;
     new = begins.new;
@@ -114,4 +114,4 @@ workers_are volume cores pens begins = record {
 
 pub none_made : {D : Type 0} (volume : Volume D) (cores : List FileHand) (pens : List (PenHand D)) → BeginsWith volume cores pens
     → HaveMadeNothing (workers_begun cores pens)
-none_made volume cores pens begins = begun_none volume.shared.first cores pens begins.new
+none_made volume cores pens begins = begun_none volume.table.first cores pens begins.new

@@ -69,14 +69,14 @@ asked_same : (history calls : List Entry) → map unanswered history ≡ map una
 asked_same history calls same = sym (asked_still calls) ∙ (sym (ap (map asked) same) ∙ asked_still history)
 
 -- the fsyncs on which each worker agrees with its pen
-abbrev fsyncs_in : {D : Type 0} (volume : Volume D) (workers : List (Worker (PenHand D))) → All (Rests volume.shared (PairAgrees volume)) workers
+abbrev fsyncs_in : {D : Type 0} (volume : Volume D) (workers : List (Worker (PenHand D))) → All (Rests volume.table (PairAgrees volume)) workers
     → List (List FlushTold)
 fsyncs_in volume [] rest = []
 fsyncs_in volume (worker ∷ workers) rest =
     (rest 0 worker (omega arith)).agree.fsyncs ∷ fsyncs_in volume workers (λ k d within. rest (suc k) d (omega (arith, within)))
 
 -- as many as there are workers
-fsyncs_count : {D : Type 0} (volume : Volume D) (workers : List (Worker (PenHand D))) (rest : All (Rests volume.shared (PairAgrees volume)) workers)
+fsyncs_count : {D : Type 0} (volume : Volume D) (workers : List (Worker (PenHand D))) (rest : All (Rests volume.table (PairAgrees volume)) workers)
     → length (fsyncs_in volume workers rest) ≡ length workers
 fsyncs_count volume [] rest = refl
 fsyncs_count volume (worker ∷ workers) rest = ap suc (fsyncs_count volume workers (λ k d within. rest (suc k) d (omega (arith, within))))
@@ -85,11 +85,11 @@ fsyncs_count volume (worker ∷ workers) rest = ap suc (fsyncs_count volume work
 record AgreesThere {D : Type 0} (volume : Volume D) (workers : List (Worker (PenHand D))) (core : ℕ) (fsyncs : List FlushTold) : Type 0 where
   worker : Worker (PenHand D)
   there : slice_get workers core ≡ Some worker
-  rests : Rests volume.shared (PairAgrees volume) worker
+  rests : Rests volume.table (PairAgrees volume) worker
   fsyncs_are : rests.agree.fsyncs ≡ fsyncs
 
 -- there is one for each list of them
-agrees_there : {D : Type 0} (volume : Volume D) (workers : List (Worker (PenHand D))) (rest : All (Rests volume.shared (PairAgrees volume)) workers)
+agrees_there : {D : Type 0} (volume : Volume D) (workers : List (Worker (PenHand D))) (rest : All (Rests volume.table (PairAgrees volume)) workers)
     (core : ℕ) (fsyncs : List FlushTold) → slice_get (fsyncs_in volume workers rest) core ≡ Some fsyncs → AgreesThere volume workers core fsyncs
 agrees_there volume [] rest core fsyncs is = absurd (none_some is)
 agrees_there volume (worker ∷ workers) rest zero fsyncs is = record {
@@ -104,7 +104,7 @@ agrees_there volume (worker ∷ workers) rest (suc core) fsyncs is =
 
 -- a core that is idle in a row of cores has its place's number
 idle_number : {D : Type 0} (volume : Volume D) (number core : ℕ) (workers : List (Worker (PenHand D))) (worker : Worker (PenHand D))
-    → AreIdleFrom volume.shared.table volume.shared.cores number (map core_of workers) → slice_get workers core ≡ Some worker
+    → AreIdleFrom volume.table.table volume.table.cores number (map core_of workers) → slice_get workers core ≡ Some worker
     → worker.core.view.core ≡ number + core
 idle_number volume number core [] worker idle there = absurd (none_some there)
 idle_number volume number zero (first ∷ workers) worker idle there =
@@ -137,22 +137,22 @@ module _ {D : Type 0} (view : D → View) (volume : Volume D) (workers : List (W
   fsyncs_many : length fsyncs ≡ length workers
   fsyncs_many = fsyncs_count volume workers unmounted.are.rest
 
-  table_run : IsTableRun (run_to volume.shared leaves.log)
+  table_run : IsTableRun (run_to volume.table leaves.log)
   table_run = record {
-    sound = unmounted.is.basis.table.sound;
+    sound = unmounted.is.site.table.sound;
     legal = leaves.events.lawful_log.legal_calls;
     lawful = leaves.events.lawful_log.told;
     disk = unmounted.is.site.disk;
   }
 
-  fsyncs_cores : length fsyncs ≡ length volume.shared.first.made
+  fsyncs_cores : length fsyncs ≡ length volume.table.first.made
   fsyncs_cores =
       fsyncs_many ∙ (workers_count volume workers unmounted.are ∙ (unmounted.is.table_cores ∙ unmounted.is.site.cores_are))
 
   owned : (event : Event Fact) → IsOneOf leaves.log event → event_core event < length fsyncs
   owned event one =
       subst (λ n. event_core event < n) (sym fsyncs_cores)
-      (event_owned (given_by volume.shared) volume.shared.first leaves.log table_run.legal table_run.lawful event one)
+      (event_owned (given_by volume.table) volume.table.first leaves.log table_run.legal table_run.lawful event one)
 
   -- What is so of the worker at a place where the volume has come to its end.
   record EndsThere (core : ℕ) (told : List FlushTold) : Type 0 where
@@ -160,8 +160,8 @@ module _ {D : Type 0} (view : D → View) (volume : Volume D) (workers : List (W
     pen : PenHand D
     core_is : hand.view.core ≡ core
     key_is : pen.table.given ≡ key
-    agree : CoresAgree volume.shared hand pen told
-    reaches : ReachesEnd volume.shared hand pen logs
+    agree : CoresAgree volume.table hand pen told
+    reaches : ReachesEnd volume.table hand pen logs
     mine : hand.view.mine ≡ entries_by event_core core leaves.log
 
   ends_there : (core : ℕ) (told : List FlushTold) → slice_get fsyncs core ≡ Some told → EndsThere core told
@@ -178,7 +178,7 @@ module _ {D : Type 0} (view : D → View) (volume : Volume D) (workers : List (W
         pen = worker.pen;
         core_is = number;
         key_is = key_is;
-        agree = subst (CoresAgree volume.shared worker.core worker.pen) at.fsyncs_are pair.agree;
+        agree = subst (CoresAgree volume.table worker.core worker.pen) at.fsyncs_are pair.agree;
         reaches = record {
           table = table_run;
           seen = leaves.events.seen core worker.core core_there;
@@ -210,7 +210,7 @@ module _ {D : Type 0} (view : D → View) (volume : Volume D) (workers : List (W
     -- its mount as it ends
     abbrev pub end : MountEnd
     end = record {
-      t = volume.shared;
+      t = volume.table;
       logs = logs;
       start = has_begun.start;
       entries = begun.old.items;
@@ -235,7 +235,7 @@ module _ {D : Type 0} (view : D → View) (volume : Volume D) (workers : List (W
     pub key_fits : IsLayout key.layout.blocks key.layout
     key_fits = subst (λ (l : Layout). IsLayout l.blocks l) (sym mounted.key.layout_is) site.fits
 
-    cores_end : CoresEnd volume.shared key logs fsyncs
+    cores_end : CoresEnd volume.table key logs fsyncs
     cores_end = record {
       given = subst AreWellKept (λ i. (sym mounted.given i).items) (mounts_keep_well nodes (view disk).size begun mounted.was.sound);
       box = record { fits = key_fits; space = unmounted.is.site.space; no_inode = no_inode; no_block = no_block };
@@ -290,7 +290,7 @@ module _ {D : Type 0} (view : D → View) (volume : Volume D) (workers : List (W
         reaches = at.reaches;
         mine = at.mine;
       };
-      frees = λ one made among is. agreed_free_nothing D volume.shared key logs fsyncs made cores_end
+      frees = λ one made among is. agreed_free_nothing D volume.table key logs fsyncs made cores_end
           (record { core = among.core; told = among.fsyncs; own = among.there; one = one; among = among.among; is = is });
       begins = begins_at;
     }

@@ -71,9 +71,9 @@ none_is (Some x) is = cc (is)
 pub record HasRun {D : Type 0} (volume : Volume D) (phase : List Line) (from : ℕ) (before after : List (Worker (PenHand D))) : Type 0 where
   pub were : AreWorkers volume before
   pub count : length after ≡ length before
-  pub each : WorksEach volume.shared (PairAgrees volume) phase from before after
+  pub each : WorksEach volume.table (PairAgrees volume) phase from before after
   pub within : HaveWorkers volume.cores phase
-  pub cores : volume.shared.cores ≡ volume.cores
+  pub cores : volume.table.cores ≡ volume.cores
 
 -- what the worker at a place made
 record MadeAt {D : Type 0} (volume : Volume D) (phase : List Line) (from core : ℕ) (before after : List (Worker (PenHand D))) : Type 0 where
@@ -95,7 +95,7 @@ module _ {D : Type 0} (volume : Volume D) (phase : List Line) (from : ℕ) (befo
       let was = get_or_from_slice_get before core worker worker there in
       let now : slice_get after core ≡ Some (get_or after core worker) = slice_get-get_or after core worker (omega (arith, low, count)) in
       let number : worker.core.view.core ≡ core =
-      number_at volume.shared.table volume.shared.cores 0 (map core_of before) core worker.core run.were.all.ready (there_too before core worker there)
+      number_at volume.table.table volume.table.cores 0 (map core_of before) core worker.core run.were.all.ready (there_too before core worker there)
       ∙ omega arith
       in
       let commands : commands_of (get_or before core worker).core.view.core phase ≡ commands_of core phase =
@@ -186,7 +186,7 @@ all_phases P (one ∷ phases) (suc k) phase all there = all_phases P phases k ph
 pub record MadeFront {D : Type 0} (volume : Volume D) (phases : List (List Line)) (begun now : List (Worker (PenHand D))) (k : ℕ) : Type 0 where
   pub count : length now ≡ length begun
   pub workers : AreWorkers volume now
-  pub made : HasMadePhases volume.shared.first (own_of now) (take k phases)
+  pub made : HasMadePhases volume.table.first (own_of now) (take k phases)
 
 -- A phase behind a front of them was run by the workers that made this.
 pub record RunsOne {D : Type 0} (volume : Volume D) (phases : List (List Line)) (begun before after : List (Worker (PenHand D))) (k : ℕ) (phase : List Line)
@@ -195,10 +195,10 @@ pub record RunsOne {D : Type 0} (volume : Volume D) (phases : List (List Line)) 
   pub low : k < length phases
   pub there : phase ≡ get_or phases k phase
   pub within : AllByRecursion (HaveWorkers volume.cores) phases
-  pub cores : volume.shared.cores ≡ volume.cores
+  pub cores : volume.table.cores ≡ volume.cores
   pub workers : AreWorkers volume after
   pub count : length after ≡ length before
-  pub each : WorksEach volume.shared (PairAgrees volume) phase from before after
+  pub each : WorksEach volume.table (PairAgrees volume) phase from before after
 
 module _ {D : Type 0} (volume : Volume D) (phases : List (List Line)) (begun before after : List (Worker (PenHand D))) (k : ℕ) (phase : List Line)
     (from : ℕ) (run : RunsOne volume phases begun before after k phase from) where
@@ -216,21 +216,21 @@ module _ {D : Type 0} (volume : Volume D) (phases : List (List Line)) (begun bef
   front_more none = record {
     count = run.count ∙ run.front.count;
     workers = run.workers;
-    made = subst (HasMadePhases volume.shared.first (own_of after)) (sym (take_more phases k phase run.low ∙ ap (λ p. take k phases ++ p ∷ []) (sym run.there)))
-        (phase_made volume phase from before after has_run volume.shared.first (take k phases) none run.front.made);
+    made = subst (HasMadePhases volume.table.first (own_of after)) (sym (take_more phases k phase run.low ∙ ap (λ p. take k phases ++ p ∷ []) (sym run.there)))
+        (phase_made volume phase from before after has_run volume.table.first (take k phases) none run.front.made);
   }
 
   -- and else they have made all phases so far
-  pub front_part : HasMadeSoFar volume.shared.first (own_of after) phases
+  pub front_part : HasMadeSoFar volume.table.first (own_of after) phases
   front_part =
       let whole : phases ≡ take k phases ++ phase ∷ drop (suc k) phases =
       sym (take-append-drop k phases)
       ∙ ap (λ l. take k phases ++ l) (drop-cons phases k phase run.low ∙ ap (λ p. p ∷ drop (suc k) phases) (sym run.there))
       in
-      subst (HasMadeSoFar volume.shared.first (own_of after)) (sym whole)
-      (phase_begun volume phase from before after has_run volume.shared.first (take k phases) (drop (suc k) phases) run.front.made)
+      subst (HasMadeSoFar volume.table.first (own_of after)) (sym whole)
+      (phase_begun volume phase from before after has_run volume.table.first (take k phases) (drop (suc k) phases) run.front.made)
 
 -- a front of as many as there are is all of them
 pub front_all : {D : Type 0} (volume : Volume D) (phases : List (List Line)) (begun now : List (Worker (PenHand D))) (k : ℕ) → length phases ≤ k
-    → MadeFront volume phases begun now k → HasMadePhases volume.shared.first (own_of now) phases
-front_all volume phases begun now k past front = subst (HasMadePhases volume.shared.first (own_of now)) (take_all k phases past) front.made
+    → MadeFront volume phases begun now k → HasMadePhases volume.table.first (own_of now) phases
+front_all volume phases begun now k past front = subst (HasMadePhases volume.table.first (own_of now)) (take_all k phases past) front.made

@@ -65,7 +65,7 @@ module _ {D : Type 0} (view : D → View) (volume : Volume D) (workers : List (W
 
   -- what is so of the mount's tree, history and turns is so of the volume's
   of_volume : (P : TreeState → List Entry → List Turn → Type 0) → P at.start.first at.start.history (past_of at.told).turns
-      → P volume.shared.first history turns
+      → P volume.table.first history turns
   of_volume P is =
       subst (λ (first : TreeState). P first history turns) at_ends.begins.first
       (subst (λ (entries : List Entry). P at.start.first entries turns) at_ends.begins.history
@@ -85,7 +85,7 @@ module _ {D : Type 0} (view : D → View) (volume : Volume D) (workers : List (W
       let later = until in
       omega (arith, low, later)
 
-  turns_tell : TurnsTellAll volume.shared.first history key.faults (view left).faults turns
+  turns_tell : TurnsTellAll volume.table.first history key.faults (view left).faults turns
   turns_tell =
       let end_of = turns_of_mounts_end D at (view left).faults at_ends few in
       of_volume (λ first entries told. TurnsTellAll first entries key.faults (view left).faults told)
@@ -126,7 +126,7 @@ module _ {D : Type 0} (view : D → View) (volume : Volume D) (workers : List (W
     share_is : share_of_nodes nodes begun.start.layout ≡ share_of_nodes nodes (layout_of image)
     share_is = ap (share_of_nodes nodes) (begun.begins.labels.layout_is ∙ (mounted.was.told image told).layout_is)
 
-    survives : SurvivesSince (share_of_nodes nodes (layout_of image)) (view disk).now volume.shared.first history turns (view left)
+    survives : SurvivesSince (share_of_nodes nodes (layout_of image)) (view disk).now volume.table.first history turns (view left)
     survives =
         let share = share_of_nodes nodes (layout_of image) in
         let first = at.start.first in

@@ -72,17 +72,17 @@ same_at {D = D} volume workers after back place d low =
 
 module _ {D : Type 0} (volume : Volume D) (workers : List (Worker (PenHand D))) (are : AreWorkers volume workers) where
   -- there are as many as the table has cores
-  pub workers_count : length workers ≡ volume.shared.cores
+  pub workers_count : length workers ≡ volume.table.cores
   workers_count = sym (length-map workers core_of) ∙ are.all.count
 
   -- one at a place rests
-  rest_there : (core : ℕ) (worker : Worker (PenHand D)) → slice_get workers core ≡ Some worker → Rests volume.shared (PairAgrees volume) worker
-  rest_there core worker there = all_there (Rests volume.shared (PairAgrees volume)) workers core worker are.rest there
+  rest_there : (core : ℕ) (worker : Worker (PenHand D)) → slice_get workers core ≡ Some worker → Rests volume.table (PairAgrees volume) worker
+  rest_there core worker there = all_there (Rests volume.table (PairAgrees volume)) workers core worker are.rest there
 
   -- where they are back from calls they are all workers still
   pub team_again : (after : List (Worker (PenHand D))) → length after ≡ length workers → WorkersAreBack volume workers after → AreWorkers volume after
   team_again after long back = record {
-    all = all_again volume.shared (map core_of workers) (map core_of after)
+    all = all_again volume.table (map core_of workers) (map core_of after)
         (length-map after core_of ∙ (long ∙ sym (length-map workers core_of))) same are.all;
     rest = λ place d within. (back place d (omega (arith, within, long))).0;
   }
@@ -94,12 +94,12 @@ module _ {D : Type 0} (volume : Volume D) (workers : List (Worker (PenHand D))) 
 
   -- so they are behind a phase
   pub run_again : (phase : List Line) (from : ℕ) (after : List (Worker (PenHand D))) → length after ≡ length workers
-      → WorksEach volume.shared (PairAgrees volume) phase from workers after → AreWorkers volume after
+      → WorksEach volume.table (PairAgrees volume) phase from workers after → AreWorkers volume after
   run_again phase from after long each = team_again after long (λ place d low. ((each place d low).rests, (each place d low).same))
 
 -- pens of workers that rest are idle as their cores are
 idle_pens : {D : Type 0} (volume : Volume D) (number : ℕ) (workers : List (Worker (PenHand D)))
-    → AreIdleFrom volume.shared.table volume.shared.cores number (map core_of workers) → All (Rests volume.shared (PairAgrees volume)) workers
+    → AreIdleFrom volume.table.table volume.table.cores number (map core_of workers) → All (Rests volume.table (PairAgrees volume)) workers
     → AreIdleFrom volume.set.table volume.set.cores number (map pen_of workers)
 idle_pens volume number [] idle rest = tt
 idle_pens volume number (worker ∷ workers) idle rest =
@@ -115,7 +115,7 @@ idle_pens volume number (worker ∷ workers) idle rest =
 
 -- the first of them leads
 pens_lead : {D : Type 0} (volume : Volume D) (workers : List (Worker (PenHand D))) → 0 < length workers
-    → AreIdleFrom volume.shared.table volume.shared.cores 0 (map core_of workers) → All (Rests volume.shared (PairAgrees volume)) workers
+    → AreIdleFrom volume.table.table volume.table.cores 0 (map core_of workers) → All (Rests volume.table (PairAgrees volume)) workers
     → first_leads (map pen_of workers) ≡ true
 pens_lead volume [] some idle rest = absurd (omega (arith, some))
 pens_lead volume (worker ∷ workers) some idle rest = (rest 0 worker (omega arith)).agree.leads idle.0.number_is

@@ -15,10 +15,10 @@ use Rattle.mount_begin.specs.declared.begin.Mounted.{Mounted as Begun}
 use Rattle.volume_laws.specs.Mounting.{WasMounted}
 use Rattle.site_laws.specs.Sites.{IsSiteMount}
 use Rattle.site_laws.proofs.Sites.{mounts_are_sites}
+use Rattle.mem_calls.specs.Table.{AreNumbersOf, nodes_of}
 use Rattle.fsync_dir.specs.Site.{IsSite}
-use Rattle.workers.specs.Works.{IsBasisOf}
 use Rattle.table_totals.specs.Seen.{HasNoLongFile}
-use Rattle.mount.specs.Begun.{IsTableOver, basis_for}
+use Rattle.mount.specs.Begun.{IsTableOver, numbers_for}
 use Rattle.mount.specs.Volume.{HasRoomForWorkers, IsMountOfDisk, IsVolume}
 use Rattle.mount.specs.declared.mounting.Tabled.{Tabled}
 use Rattle.mount.specs.declared.volume.Volume.{Volume}
@@ -28,7 +28,7 @@ pub record PutTogether {D : Type 0} (view : D → View) (nodes : ℕ) (disk left
     (pens : List (PenHand D)) : Type 0 where
   pub was : WasMounted nodes begun (view disk) (view left)
   pub most : nodes ≤ 65536
-  pub table : IsTableOver begun.tree begun.old begun.layout.cores (basis_for begun.layout nodes).nodes tabled
+  pub table : IsTableOver begun.tree begun.old begun.layout.cores tabled
   pub room : HasRoomForWorkers begun.layout.cores tabled.room
   pub key : IsKeyOf begun.layout (view left) begun.space set.table.given
   pub over : BeganOver left set.table.given
@@ -42,47 +42,32 @@ site_of nodes begun old new was = mounts_are_sites nodes old.size begun was.soun
 pub share_is : (nodes : ℕ) (begun : Begun) (old new : View) → WasMounted nodes begun old new → begun.tree.share ≡ share_of_nodes nodes begun.layout
 share_is nodes begun old new was = ap (λ (t : TreeState). t.share) was.sound.shown
 
--- so many nodes it has
-pub nodes_are : (nodes : ℕ) (begun : Begun) (old new : View) → WasMounted nodes begun old new
-    → (basis_for begun.layout nodes).nodes ≡ node_count begun.tree
-nodes_are nodes begun old new was =
-    let site = site_of nodes begun old new was in
-    (λ i. site.inodes i + share_of_nodes nodes begun.layout * begun.layout.cores)
-    ∙ (λ i. begun.tree.first + sym (share_is nodes begun old new was) i * sym site.cores i)
+-- by these its cores number new nodes
+pub numbers_are : (nodes : ℕ) (begun : Begun) (old new : View) → WasMounted nodes begun old new → AreNumbersOf begun.tree (numbers_for begun.layout nodes)
+numbers_are nodes begun old new was = record {
+  first_is = (site_of nodes begun old new was).inodes;
+  share_is = sym (share_is nodes begun old new was);
+}
 
 module _ {D : Type 0} (view : D → View) (nodes : ℕ) (disk left : D) (begun : Begun) (tabled : Tabled D) (set : TableState (BoxKey D))
     (pens : List (PenHand D)) (put : PutTogether view nodes disk left begun tabled set pens) where
   -- the volume
   abbrev pub volume_of : Volume D
-  volume_of = record { shared = tabled.shared; set = set; basis = basis_for begun.layout nodes; cores = begun.layout.cores; room = tabled.room }
+  volume_of = record { table = tabled.table; set = set; cores = begun.layout.cores; room = tabled.room }
 
   site : IsSiteMount nodes begun
   site = site_of nodes begun (view disk) (view left) put.was
 
   -- it has the layout's cores
-  made_cores : length tabled.shared.first.made ≡ begun.layout.cores
+  made_cores : length tabled.table.first.made ≡ begun.layout.cores
   made_cores = ap (λ (t : TreeState). length t.made) put.table.first ∙ site.cores
 
-  table_cores : tabled.shared.cores ≡ begun.layout.cores
+  table_cores : tabled.table.cores ≡ begun.layout.cores
   table_cores = put.table.counted ∙ made_cores
 
-  basis_is : IsBasisOf tabled.shared (basis_for begun.layout nodes)
-  basis_is = record {
-    table = record {
-      sound = subst Rattle.tree_laws.specs.Laws.IsSoundTree (sym put.table.first) site.sound;
-      within = subst Rattle.tree_laws.specs.Sound.IsWithinLimits (sym put.table.first) site.limits;
-      counted = nodes_are nodes begun (view disk) (view left) put.was ∙ ap node_count (sym put.table.first);
-      slots = put.table.slots ∙ ap (Rattle.mem_values.specs.Places.place_count (basis_for begun.layout nodes).nodes) (sym made_cores);
-    };
-    numbers = record {
-      first_is = site.inodes ∙ ap (λ (t : TreeState). t.first) (sym put.table.first);
-      share_is = sym (share_is nodes begun (view disk) (view left) put.was) ∙ ap (λ (t : TreeState). t.share) (sym put.table.first);
-    };
-  }
-
-  site_is : IsSite tabled.shared (basis_for begun.layout nodes).nodes begun.layout.cores set.table.given
+  site_is : IsSite tabled.table (nodes_of tabled.table) begun.layout.cores set.table.given
   site_is = record {
-    table = basis_is.table;
+    table = put.table.is;
     cores_are = sym made_cores;
     inodes = ap (λ (l : Rattle.sfs_image.specs.Super.Layout). l.inodes) put.key.layout_is ∙ (site.inodes ∙ ap (λ (t : TreeState). t.first) (sym put.table.first));
     space = subst (λ (z : Rattle.sfs_image.specs.Super.Layout × Rattle.space_map.specs.Space.Space). Rattle.fsync_commit.specs.Asked.IsSpaceOn z.0 z.1)
@@ -97,15 +82,14 @@ module _ {D : Type 0} (view : D → View) (nodes : ℕ) (disk left : D) (begun :
   }
 
   -- it is one
-  pub volume_is : 0 < begun.layout.cores → (basis_for begun.layout nodes).nodes ≤ 131072 → IsVolume volume_of
+  pub volume_is : 0 < begun.layout.cores → node_count begun.tree ≤ 131072 → IsVolume volume_of
   volume_is some few = record {
-    basis = basis_is;
     short = subst HasNoLongFile (sym put.table.first) site.begins.short;
     site = site_is;
     some = some;
     table_cores = table_cores;
     set_cores = put.new.cores ∙ ap (λ (l : Rattle.sfs_image.specs.Super.Layout). l.cores) put.key.layout_is;
-    few = omega (arith, few);
+    few = let same = ap node_count put.table.first in omega (arith, few, same);
     room = put.room;
   }
 

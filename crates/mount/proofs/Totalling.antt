@@ -22,7 +22,7 @@ use Rattle.mount.proofs.Teams.{team_again, workers_count}
 
 -- the workers of a volume are at rest
 pub all_at_rest : {D : Type 0} (volume : Volume D) (workers : List (Worker (PenHand D))) → IsVolume volume → AreWorkers volume workers
-    → AreAtRest volume.shared workers
+    → AreAtRest volume.table workers
 all_at_rest volume workers is are =
     let count = workers_count volume workers are ∙ is.table_cores in
     let some = is.some in
@@ -44,17 +44,17 @@ module _ {D : Type 0} (volume : Volume D) (was : Worker (PenHand D)) (others : L
   more = more_of was.core now saw
 
   -- the first rests
-  first_rests : Rests volume.shared (PairAgrees volume) was → Rests volume.shared (PairAgrees volume) after
+  first_rests : Rests volume.table (PairAgrees volume) was → Rests volume.table (PairAgrees volume) after
   first_rests rests = record {
-    between = more_between was.core now more volume.shared rests.between;
-    agree = pairs_kept volume.shared volume.set was.core now was.pen (more_keeps was.core now more) rests.agree;
+    between = more_between was.core now more volume.table rests.between;
+    agree = pairs_kept volume.table volume.set was.core now was.pen (more_keeps was.core now more) rests.agree;
     past = subst (AreBefore was.until) (sym (ap (λ (h : FileHand). h.entries) saw.frame)) rests.past;
   }
 
   same_itself : (core : FileHand) → IsSameCore core core
   same_itself core = record { table = refl; cores = refl; leads = refl; number = refl }
 
-  back : All (Rests volume.shared (PairAgrees volume)) (was ∷ others) → WorkersAreBack volume (was ∷ others) (after ∷ others)
+  back : All (Rests volume.table (PairAgrees volume)) (was ∷ others) → WorkersAreBack volume (was ∷ others) (after ∷ others)
   back rest zero d within = (first_rests (rest 0 was (omega arith)), more_same was.core now more)
   back rest (suc k) d within = (rest (suc k) d within, same_itself (slice_index_or others k d).core)
 
@@ -82,11 +82,11 @@ module _ {D : Type 0} (volume : Volume D) (before after : List (Worker (PenHand 
 
 -- what was counted is what a volume has that is left with these workers
 totals_left : {D : Type 0} (view : D → View) (volume : Volume D) (workers : List (Worker (PenHand D))) (found : TreeTotals)
-    → AreTotalsAtEnd volume.shared workers found → AreTotalsOfVolume view volume workers found
+    → AreTotalsAtEnd volume.table workers found → AreTotalsOfVolume view volume workers found
 totals_left view volume workers found are disk history turns leaves =
     are history (record { legal = leaves.legal; own = leaves.own; log = leaves.log; events = leaves.events })
 
 pub totals_are : {D E : Type 0} (view : D → View) (volume : Volume D) (workers : List (Worker (PenHand D))) (result : Result TreeTotals E)
-    → IfOk result (AreTotalsAtEnd volume.shared workers) → IfOk result (AreTotalsOfVolume view volume workers)
+    → IfOk result (AreTotalsAtEnd volume.table workers) → IfOk result (AreTotalsOfVolume view volume workers)
 totals_are view volume workers (Ok found) are = totals_left view volume workers found are
 totals_are view volume workers (Err fault) are = are

@@ -21,9 +21,9 @@ use Rattle.mount.specs.declared.volume.Volume.{Volume}
 -- turns, of all of which each worker's core and pen had their part.
 pub record LeavesVolume {D : Type 0} (view : D → View) (volume : Volume D) (workers : List (Worker (PenHand D))) (disk : D) (history : List Entry)
     (turns : List Turn) : Type 0 where
-  pub legal : IsLegal volume.shared.first history
+  pub legal : IsLegal volume.table.first history
   pub own : (core : ℕ) (worker : Worker (PenHand D)) → slice_get workers core ≡ Some worker → filter (is_core core) history ≡ worker.core.entries
   pub log : List (Event Fact)
-  pub events : IsLogAtEnd (IsLawfulLog (given_by volume.shared)) volume.shared.first (map core_of workers) history log
+  pub events : IsLogAtEnd (IsLawfulLog (given_by volume.table)) volume.table.first (map core_of workers) history log
   pub labels : List (Event Label)
   pub leaves : LeavesDisk view volume.set.table.given (map pen_of workers) labels disk turns

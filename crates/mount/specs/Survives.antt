@@ -49,11 +49,11 @@ pub record MountComesTo {D : Type 0} (view : D → View) (nodes : ℕ) (disk : D
   pub since : (view disk).faults ≤ volume.set.table.given.faults
   pub until : volume.set.table.given.faults ≤ (view left).faults
   pub dated : RisesFrom (view disk).now turns (view left).now
-  pub turns_tell : TurnsTellAll volume.shared.first history volume.set.table.given.faults (view left).faults turns
+  pub turns_tell : TurnsTellAll volume.table.first history volume.set.table.given.faults (view left).faults turns
   pub has : HasBegunVolume nodes mounted.begun history (view disk) (view mounted.left)
-  pub recorded : IsRecorded volume.shared.first history (image_held has.start) (view disk).faults (view left).faults turns
+  pub recorded : IsRecorded volume.table.first history (image_held has.start) (view disk).faults (view left).faults turns
   pub survives : IfTold (view disk).content (λ image. IsCalm (view disk) → CountsOn (view left)
-      → SurvivesSince (share_of_nodes nodes (layout_of image)) (view disk).now volume.shared.first history turns (view left))
+      → SurvivesSince (share_of_nodes nodes (layout_of image)) (view disk).now volume.table.first history turns (view left))
 
 -- So it does, whichever disk it was mounted of.
 abbrev pub VolumeSurvives : {D : Type 0} → (D → View) → Volume D → D → List Entry → List Turn → Type 0

@@ -14,4 +14,4 @@ use Rattle.mount.specs.declared.volume.Volume.{Volume}
 -- These are the totals of the tree after each history that a volume leaves which is unmounted with these workers.
 abbrev pub AreTotalsOfVolume : {D : Type 0} → (D → View) → Volume D → List (Worker (PenHand D)) → TreeTotals → Type 0
 AreTotalsOfVolume {D} view volume workers found = (disk : D) (history : List Entry) (turns : List Turn)
-    → LeavesVolume view volume workers disk history turns → AreTotalsOf (tree_after volume.shared.first history) found
+    → LeavesVolume view volume workers disk history turns → AreTotalsOf (tree_after volume.table.first history) found

@@ -12,8 +12,8 @@ use Rattle.std.specs.Prelude.{Err}
 use Rattle.mount_begin.specs.declared.begin.Mounted.{Mounted as Begun}
 use Rattle.volume_laws.specs.Mounting.{WasMounted}
 use Rattle.journal_set.specs.Making.{BeganOver, IsKeyOf}
+use Rattle.mem_calls.specs.Table.{nodes_of}
 use Rattle.fsync_dir.specs.Site.{IsSite}
-use Rattle.workers.specs.Works.{IsBasisOf}
 use Rattle.table_totals.specs.Seen.{HasNoLongFile}
 use Rattle.mount.specs.declared.volume.Volume.{Volume}
 use Rattle.mount.specs.declared.volume.Room.{Room}
@@ -26,16 +26,14 @@ pub record HasRoomForWorkers {D : Type 0} (cores : ℕ) (room : Room D) : Type 0
   pub for_cores : cores ≤ vec_capacity room.cores
   pub for_pens : cores ≤ vec_capacity room.pens
 
--- A volume: its table is one of a file tree, by whose numbers its cores number new nodes, and it began with no file longer than a file may be; fsyncs may be served
--- over it; table and journals have as many cores as it has, of which there are some; and there is room for them.
+-- A volume: its table began with no file longer than a file may be; fsyncs may be served over it, and its nodes have numbers of 32 bits; table and journals have as many cores as it has, of which there are some; and there is room for them.
 pub record IsVolume {D : Type 0} (volume : Volume D) : Type 0 where
-  pub basis : IsBasisOf volume.shared volume.basis
-  pub short : HasNoLongFile volume.shared.first
-  pub site : IsSite volume.shared volume.basis.nodes volume.cores volume.set.table.given
+  pub short : HasNoLongFile volume.table.first
+  pub site : IsSite volume.table (nodes_of volume.table) volume.cores volume.set.table.given
   pub some : 0 < volume.cores
-  pub table_cores : volume.shared.cores ≡ volume.cores
+  pub table_cores : volume.table.cores ≡ volume.cores
   pub set_cores : volume.set.cores ≡ volume.cores
-  pub few : volume.basis.nodes ≤ 2 ^ 32 - 1
+  pub few : nodes_of volume.table ≤ 2 ^ 32 - 1
   pub room : HasRoomForWorkers volume.cores volume.room
 
 -- A volume was mounted of a disk with so many new nodes: the disk was recovered, and what it begins with was gathered from it; its table is over that tree and was
@@ -44,8 +42,8 @@ pub record IsMountOfDisk {D : Type 0} (view : D → View) (nodes : ℕ) (disk : 
   pub begun : Begun
   pub left : D
   pub was : WasMounted nodes begun (view disk) (view left)
-  pub tree : volume.shared.first ≡ begun.tree
-  pub given : volume.shared.table.given ≡ begun.old
+  pub tree : volume.table.first ≡ begun.tree
+  pub given : volume.table.table.given ≡ begun.old
   pub key : IsKeyOf begun.layout (view left) begun.space volume.set.table.given
   pub over : BeganOver left volume.set.table.given
 

@@ -21,7 +21,7 @@ pub record AgreeAt {D : Type 0} (shared : FileState) (set : TableState (BoxKey D
 
 -- a core of a volume's table and its pen agree
 abbrev pub PairAgrees : {D : Type 0} → Volume D → FileHand → PenHand D → Type 0
-PairAgrees volume = AgreeAt volume.shared volume.set
+PairAgrees volume = AgreeAt volume.table volume.set
 
 -- the core of a worker
 abbrev pub core_of : {P : Type 0} → Worker P → FileHand
@@ -43,8 +43,8 @@ workers_begun (core ∷ cores) (pen ∷ pens) = worker_begun core pen ∷ worker
 
 -- These are all workers of a volume: they have all of its cores, and each rests and agrees with its pen.
 pub record AreWorkers {D : Type 0} (volume : Volume D) (workers : List (Worker (PenHand D))) : Type 0 where
-  pub all : AreAllCores volume.shared (map core_of workers)
-  pub rest : All (Rests volume.shared (PairAgrees volume)) workers
+  pub all : AreAllCores volume.table (map core_of workers)
+  pub rest : All (Rests volume.table (PairAgrees volume)) workers
 
 -- Their cores have made no call.
 abbrev pub HaveMadeNothing : {P : Type 0} → List (Worker P) → Type 0
@@ -53,5 +53,5 @@ HaveMadeNothing workers = All (λ worker. worker.core.entries ≡ []) workers
 -- Workers are back from calls, each with the core that it had, and rest.
 abbrev pub WorkersAreBack : {D : Type 0} → Volume D → List (Worker (PenHand D)) → List (Worker (PenHand D)) → Type 0
 WorkersAreBack {D} volume before after = (place : ℕ) (d : Worker (PenHand D)) → place < length before
-    → Rests volume.shared (PairAgrees volume) (slice_index_or after place d)
+    → Rests volume.table (PairAgrees volume) (slice_index_or after place d)
     × IsSameCore (slice_index_or before place d).core (slice_index_or after place d).core

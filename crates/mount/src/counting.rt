@@ -28,5 +28,5 @@ pub fn totals<R: Wait, D: Disk + Drop>(
     ensures entries { (core : ℕ) → own_of workers.new core ≡ own_of workers.old core }
     ensures totals { IfOk result (AreTotalsOfVolume D.view volume.now workers.new) }
 {
-    totals_at_rest(rt, &volume.shared, workers, volume.basis.nodes)
+    totals_at_rest(rt, &volume.table, workers)
 }

@@ -2,11 +2,14 @@
 ghost use Rattle.std.specs.Prelude.{◌≡◌, ◌<◌, ◌≤◌, [], IfErr, IfOk, length};
 ghost use Rattle.std.specs.Vec.{vec_capacity};
 ghost use Rattle.sfs_image.specs.Super.{InRange};
+ghost use Rattle.tree_laws.specs.Laws.{IsSoundTree};
+ghost use Rattle.tree_laws.specs.Sound.{IsWithinLimits};
 ghost use Rattle.mem_begin.specs.Beginning.{CanBeginTable};
+ghost use Rattle.mem_calls.specs.Table.{AreNumbersOf};
 ghost use Rattle.mem_values.specs.Places.{node_count};
 ghost use Rattle.volume_laws.specs.Mounting.{WasMounted};
 ghost use Rattle.recovery.specs.declared.fault.RecoverFault.TheVariants as RecoverFault;
-ghost use Rattle.mount.specs.Begun.{IsTableOver, basis_for};
+ghost use Rattle.mount.specs.Begun.{IsTableOver, numbers_for};
 ghost use Rattle.mount.specs.Volume.{HasRoomForWorkers, IsMountOfDisk, IsRefusedMount, IsVolume};
 ghost use Rattle.mount.specs.Workers.{AreWorkers, HaveMadeNothing, workers_begun};
 
@@ -16,15 +19,15 @@ use disk_nodes::OldDisk;
 use fmt_super::Layout;
 use journal_set::{JournalSet, NewFault};
 use mem_begin::make;
-use mem_calls::Numbers;
-use mem_values::{FileCore, FileShared};
+use mem_calls::{Numbers, TreeTable};
+use mem_values::FileCore;
 use mount_begin::Mounted as Begun;
 use recovery::RecoverFault;
 use sfs_base::NoMemory;
 use sfs_dev::Disk;
 use sfs_tree::Tree;
 use std::alloc::Global;
-use workers::{Basis, Worker};
+use workers::Worker;
 
 /// Why a disk was not mounted, and the disk.
 #[derive(Drop)]
@@ -76,50 +79,48 @@ fn room_for<D: Disk + Drop>(
     Ok((room, Vec::with_capacity(alloc, cores)?))
 }
 
-// How many nodes a volume with this layout has and by what its cores number new ones, where so many new ones are shared among them.
-fn basis_of(layout: &Layout, nodes: u32) -> Basis
+// By what the cores of a volume with this layout number new nodes, where so many are shared among them.
+fn numbers_of(layout: &Layout, nodes: u32) -> Numbers
     requires layout { InRange layout.now }
-    requires most { nodes ≤ 65536 }
-    ensures { result ≡ basis_for layout.now nodes }
+    ensures { result ≡ numbers_for layout.now nodes }
 {
-    let share = nodes / layout.cores;
-    Basis {
-        nodes: layout.inodes + share * layout.cores,
-        numbers: Numbers {
-            first: layout.inodes,
-            share,
-        },
+    Numbers {
+        first: layout.inodes,
+        share: nodes / layout.cores,
     }
 }
 
 // What a volume is made of before its journals: its table with its cores, and room.
 #[derive(Drop)]
 struct Tabled<D: Disk> {
-    shared: FileShared,
+    table: TreeTable,
     cores: Vec<FileCore>,
     room: Room<D>,
     workers: Vec<Worker<Pen<D>>>,
 }
 
-// That over a tree.
+// That over a tree whose cores number new nodes by these.
 fn table_over<D: Disk + Drop>(
     alloc: Global,
     tree: &Tree,
     old: OldDisk,
-    basis: Basis,
+    numbers: Numbers,
     cores: u8,
 ) -> Result<Tabled<D>, NoMemory>
     requires begins { CanBeginTable tree.now }
-    requires nodes { basis.nodes ≡ node_count tree.now }
+    requires sound { IsSoundTree tree.now × IsWithinLimits tree.now }
+    requires numbers { AreNumbersOf tree.now numbers }
     requires cores { (0 < cores) × (cores ≡ length tree.now.made) }
-    ensures table { IfOk result (IsTableOver tree.now old cores basis.nodes) }
+    requires few { node_count tree.now ≤ 131072 }
+    ensures table { IfOk result (IsTableOver tree.now old cores) }
     ensures room { IfOk result (λ made. HasRoomForWorkers cores made.room) }
     ensures workers { IfOk result (λ made. (made.workers.items ≡ []) × (cores ≤ vec_capacity made.workers)) }
 {
-    let (shared, hands) = make(alloc, tree, old, basis.nodes, cores)?;
+    let nodes = numbers.first + numbers.share * cores as u32;
+    let (shared, hands) = make(alloc, tree, old, nodes, cores)?;
     let (room, workers) = room_for(alloc, cores as usize)?;
     Ok(Tabled {
-        shared,
+        table: TreeTable::new(shared, nodes, numbers),
         cores: hands,
         room,
         workers,
@@ -138,7 +139,7 @@ pub fn begin<D: Disk + Drop>(
     requires was { (old : D) × WasMounted nodes begun (D.view old) (D.view disk) }
     ensures volume { IfOk result (λ made. IsVolume made.volume) }
     ensures mounts { IfOk result (λ made. (old : D) → WasMounted nodes begun (D.view old) (D.view disk) → IsMountOfDisk D.view nodes old made.volume) }
-    ensures first { IfOk result (λ made. made.volume.shared.first ≡ begun.tree) }
+    ensures first { IfOk result (λ made. made.volume.table.first ≡ begun.tree) }
     ensures workers { IfOk result (λ made. AreWorkers made.volume made.workers.items) }
     ensures new { IfOk result (λ made. HaveMadeNothing made.workers.items) }
     ensures cores { IfOk result (λ made. made.volume.cores ≡ begun.layout.cores) }
@@ -150,9 +151,9 @@ pub fn begin<D: Disk + Drop>(
         old,
         space,
     } = begun;
-    let basis = basis_of(&layout, nodes);
+    let numbers = numbers_of(&layout, nodes);
     let cores = layout.cores as u8;
-    let Ok(tabled) = table_over(alloc, &tree, old, basis, cores) else {
+    let Ok(tabled) = table_over(alloc, &tree, old, numbers, cores) else {
         return Err(MountFault {
             fault: RecoverFault::NoMemory,
             disk,
@@ -168,7 +169,7 @@ pub fn begin<D: Disk + Drop>(
         }
     };
     let Tabled {
-        shared,
+        table,
         cores: hands,
         room,
         workers,
@@ -176,9 +177,8 @@ pub fn begin<D: Disk + Drop>(
     Ok(Mounted {
         workers: pair_up(hands, pens, workers),
         volume: Volume {
-            shared,
+            table,
             set,
-            basis,
             cores,
             room,
         },

@@ -34,8 +34,8 @@ pub fn run_phases<R: Threads + Wait + Sync, D: Disk + Drop + Sync, G: Gate>(
     requires within { AllByRecursion (HaveWorkers volume.now.cores) phases.now }
     ensures count { length workers.new ≡ length workers.old }
     ensures workers { AreWorkers volume.now workers.new }
-    ensures ok { OnOk result (HasMadePhases volume.now.shared.first (own_of workers.new) phases.now) }
-    ensures err { OnErr result (HasMadeSoFar volume.now.shared.first (own_of workers.new) phases.now) }
+    ensures ok { OnOk result (HasMadePhases volume.now.table.first (own_of workers.new) phases.now) }
+    ensures err { OnErr result (HasMadeSoFar volume.now.table.first (own_of workers.new) phases.now) }
 {
     for phase in phases {
         run_phase(rt, alloc, volume, workers, phase, gate)?;

@@ -39,13 +39,13 @@ pub fn unmount<D: Disk + Drop>(
     ensures survives { VolumeSurvives D.view volume result.0 result.1 result.2.items }
 {
     let Volume {
-        shared,
+        table,
         set,
         room,
         ..
     } = volume;
     let Room { cores, pens } = part(room, workers);
-    let (history, _) = shared.close(cores);
+    let (history, _) = table.into_shared().close(cores);
     let (disk, turns) = set.close(pens);
     (disk, history, turns)
 }

@@ -4,9 +4,10 @@ ghost use Rattle.std.specs.Prelude.{◌≡◌};
 use disk_box::Pen;
 use fsync_dir::FlushSite;
 use journal_set::JournalSet;
-use mem_values::{FileCore, FileShared};
+use mem_calls::TreeTable;
+use mem_values::FileCore;
 use sfs_dev::Disk;
-use workers::{Basis, Worker};
+use workers::Worker;
 
 /// Room for the cores and the pens of a volume, which are taken in where it is unmounted.
 #[derive(Drop)]
@@ -15,13 +16,11 @@ pub struct Room<D: Disk> {
     pub pens: Vec<Pen<D>>,
 }
 
-/// A mounted volume: the table over its tree, the journals at its disk, how many nodes and cores it has and by what these number new nodes, and room for the
-/// cores and pens that its workers have.
+/// A mounted volume: the table of its tree, the journals at its disk, how many cores it has, and room for the cores and pens that its workers have.
 #[derive(Drop)]
 pub struct Volume<D: Disk> {
-    pub shared: FileShared,
+    pub table: TreeTable,
     pub set: JournalSet<D>,
-    pub basis: Basis,
     pub cores: u8,
     pub room: Room<D>,
 }
@@ -34,11 +33,11 @@ pub struct Mounted<D: Disk> {
 }
 
 impl<D: Disk> Volume<D> {
-    /// The table over its tree.
-    pub fn shared(&self) -> &FileShared
-        ensures { result.now ≡ self.now.shared }
+    /// The table of its tree.
+    pub fn table(&self) -> &TreeTable
+        ensures { result.now ≡ self.now.table }
     {
-        &self.shared
+        &self.table
     }
 
     /// The journals at its disk.
@@ -50,15 +49,13 @@ impl<D: Disk> Volume<D> {
 
     /// Where its fsyncs are served.
     pub fn site(&self) -> FlushSite<'_, D>
-        ensures shared { result.shared.now ≡ self.now.shared }
+        ensures table { result.table.now ≡ self.now.table }
         ensures set { result.set.now ≡ self.now.set }
-        ensures nodes { result.nodes ≡ self.now.basis.nodes }
         ensures cores { result.cores ≡ self.now.cores }
     {
         FlushSite {
-            shared: &self.shared,
+            table: &self.table,
             set: &self.set,
-            nodes: self.basis.nodes,
             cores: self.cores,
         }
     }

@@ -75,7 +75,7 @@ has_calls first history workers phases ended is ok err = record {
 -- the history that a volume leaves is of its workers
 pub of_workers : {D : Type 0} (view : D → View) (volume : Volume D) (workers : List (Worker (PenHand D))) (left : D) (history : List Entry)
     (turns : List Turn) → IsVolume volume → AreWorkers volume workers → LeavesVolume view volume workers left history turns
-    → IsOfWorkers volume.shared.first history workers
+    → IsOfWorkers volume.table.first history workers
 of_workers view volume workers left history turns is are leaves = record {
   legal = leaves.legal;
   cores = sym (length-map workers core_of) ∙ (are.all.count ∙ (is.table_cores ∙ is.site.cores_are));

@@ -67,10 +67,10 @@ module _ {D : Type 0} (view : D → View) (nodes : ℕ) (disk left : D) (volume 
       subst (λ (d : D). Advances (view d) (view left)) over.is (ends.leaves.leaves.since.goes over.first over.told)
 
   -- what was left of the mount's tree
-  left_of_tree : LeavesRun nodes volume.shared.first (view disk) (view left) history turns
+  left_of_tree : LeavesRun nodes volume.table.first (view disk) (view left) history turns
   left_of_tree =
       let tell = comes.turns_tell in
-      let same : begun.tree ≡ volume.shared.first = sym ends.mounted.tree in
+      let same : begun.tree ≡ volume.table.first = sym ends.mounted.tree in
       record {
         legal = ends.leaves.legal;
         turns_are = record {
@@ -88,5 +88,5 @@ module _ {D : Type 0} (view : D → View) (nodes : ℕ) (disk left : D) (volume 
         advances = GoesOn-trans _ _ _ ends.mounted.was.advances goes_on;
       }
 
-  pub leaves_run : (tree : TreeState) → volume.shared.first ≡ tree → LeavesRun nodes tree (view disk) (view left) history turns
+  pub leaves_run : (tree : TreeState) → volume.table.first ≡ tree → LeavesRun nodes tree (view disk) (view left) history turns
   leaves_run tree is = subst (λ (t : TreeState). LeavesRun nodes t (view disk) (view left) history turns) is left_of_tree

@@ -37,4 +37,4 @@ pub record LeavesRun (nodes : ℕ) (first : TreeState) (old new : View) (history
 -- What is due by what was found at the end of a run is what is due behind each history that its volume leaves which is unmounted with these workers.
 abbrev pub EndsVolume : {D : Type 0} → (D → View) → Volume D → List (Worker (PenHand D)) → Writing → Ending → Type 0
 EndsVolume {D} view volume workers writing ending = (disk : D) (history : List Entry) (turns : List Turn)
-    → LeavesVolume view volume workers disk history turns → text_due ending history ≡ text_behind writing volume.shared.first history
+    → LeavesVolume view volume workers disk history turns → text_due ending history ≡ text_behind writing volume.table.first history

@@ -83,8 +83,8 @@ fn run_on<R: Threads + Wait + Sync, D: Disk + Drop + Sync, G: Gate>(
     requires within { AllByRecursion (HaveWorkers volume.now.cores) phases.now }
     ensures count { length workers.new ≡ length workers.old }
     ensures workers { AreWorkers volume.now workers.new }
-    ensures ok { OnOk result.0 (HasMadePhases volume.now.shared.first (own_of workers.new) phases.now) }
-    ensures err { OnErr result.0 (HasMadeSoFar volume.now.shared.first (own_of workers.new) phases.now) }
+    ensures ok { OnOk result.0 (HasMadePhases volume.now.table.first (own_of workers.new) phases.now) }
+    ensures err { OnErr result.0 (HasMadeSoFar volume.now.table.first (own_of workers.new) phases.now) }
     ensures due { IfOk result.1 (EndsVolume D.view volume.now workers.new writing) }
 {
     let ended = run_phases(rt, alloc, volume, workers, phases, gate);

@@ -8,6 +8,7 @@ ghost use Rattle.mem_calls.specs.Table.{IsFileTable};
 ghost use Rattle.table_totals.specs.Seen.{HasNoLongFile, MayCount, OnlySaw, SawNoCall, SawOn, tree_seen};
 
 use crate::parts::{count_bytes, count_rows};
+use mem_calls::TreeTable;
 use mem_values::{FileCore, FileShared};
 use sfs_base::{NoMemory, NodeId};
 use std::sync::Wait;
@@ -38,19 +39,19 @@ fn count_once<R: Wait>(rt: &R, shared: &FileShared, core: &mut FileCore, nodes: 
 /// may make calls meanwhile; it counts again until none came while it did. It may wait. It makes no entry and changes no cell.
 pub fn totals<R: Wait>(
     rt: &R,
-    shared: &FileShared,
+    table: &TreeTable,
     core: &mut FileCore,
-    nodes: u32,
 ) -> Result<TreeTotals, NoMemory>
-    requires table { IsFileTable shared.now nodes }
-    requires short { HasNoLongFile shared.now.first }
-    requires between { IsBetweenCalls shared.now core.old }
-    ensures between { IsBetweenCalls shared.now core.new }
+    requires short { HasNoLongFile table.now.first }
+    requires between { IsBetweenCalls table.now core.old }
+    ensures between { IsBetweenCalls table.now core.new }
     ensures saw { OnlySaw core.old core.new }
     ensures rows { IfOk result (λ found. found.rows ≡ total_rows (tree_seen core.new)) }
     ensures bytes { IfOk result (λ found. found.bytes ≡ total_bytes (tree_seen core.new)) }
     ensures refused { OnErr result (core.new.view ≡ core.old.view) }
 {
+    let shared = table.shared();
+    let nodes = table.nodes();
     core.reserve(0, 1)?;
     let mut before = core.look(shared);
     for _ in rt.forever() {

@@ -1,11 +1,10 @@
 // The tree behind all calls of a table's workers, who rest.
 ghost use Rattle.std.specs.Prelude.{◌≤◌, All, IfOk};
-ghost use Rattle.mem_calls.specs.Table.{IsFileTable};
 ghost use Rattle.table_totals.specs.Rest.{AreAtRest, AreTotalsAtEnd, FirstSaw};
 ghost use Rattle.table_totals.specs.Seen.{HasNoLongFile};
 
 use crate::counting::totals;
-use mem_values::FileShared;
+use mem_calls::TreeTable;
 use sfs_base::NoMemory;
 use std::sync::Wait;
 use tree_totals::TreeTotals;
@@ -28,18 +27,16 @@ fn last_look<P>(workers: &[Worker<P>]) -> u64
 /// the table, ascending by number, and counts by the first one's core, once that has seen all calls. It may wait. It makes no entry and changes no cell.
 pub fn totals_at_rest<R: Wait, P>(
     rt: &R,
-    shared: &FileShared,
+    table: &TreeTable,
     workers: &mut [Worker<P>],
-    nodes: u32,
 ) -> Result<TreeTotals, NoMemory>
-    requires table { IsFileTable shared.now nodes }
-    requires short { HasNoLongFile shared.now.first }
-    requires rest { AreAtRest shared.now workers.old }
+    requires short { HasNoLongFile table.now.first }
+    requires rest { AreAtRest table.now workers.old }
     ensures saw { FirstSaw workers.old workers.new }
-    ensures end { IfOk result (AreTotalsAtEnd shared.now workers.new) }
+    ensures end { IfOk result (AreTotalsAtEnd table.now workers.new) }
 {
     let last = last_look(workers);
     let core = &mut workers[0].core;
-    core.look_for(rt, shared, last);
-    totals(rt, shared, core, nodes)
+    core.look_for(rt, table.shared(), last);
+    totals(rt, table, core)
 }

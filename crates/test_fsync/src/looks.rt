@@ -1,14 +1,13 @@
 // What a core looks at for an fsync: it holds what was flushed of a node, and copies the logs of all cores as far as that node asks.
 ghost use Rattle.std.specs.Prelude.{◌≡◌};
 ghost use Rattle.stamp_table.specs.Table.{IsBetweenCalls, IsSameCore};
-ghost use Rattle.begun_tables.specs.Begun.{IsCallTable};
 
 use crate::helpers::{got, holds, some};
 use begun_tables::{begun, make_call, root_alone};
 use fsync_look::{copy_logs, hold_nodes};
-use mem_calls::Numbers;
+use mem_calls::TreeTable;
 use mem_cells::LogPart;
-use mem_values::{FileCore, FileShared};
+use mem_values::FileCore;
 use sfs_base::{Kind, Name, NoGate, NodeId, Stamp};
 use std::alloc::Global;
 use std::sync::Wait;
@@ -16,32 +15,26 @@ use tree_laws::{Act, Call};
 
 const ROOT: NodeId = NodeId(0);
 
-const NUMBERS: Numbers = Numbers { first: 4, share: 2 };
-
-// How many nodes there may be: those below the first new one, and two shares.
-const NODES: u32 = 8;
-
 const CORES: u8 = 2;
 
 // Makes a file in the root.
 fn make_file<R: Wait>(
     rt: &R,
     alloc: Global,
-    shared: &FileShared,
+    table: &TreeTable,
     core: &mut FileCore,
     name: Name,
 ) -> bool
-    requires table { IsCallTable shared.now 4 2 NODES }
-    requires core { IsBetweenCalls shared.now core.old }
+    requires core { IsBetweenCalls table.now core.old }
     ensures same { IsSameCore core.old core.new }
-    ensures between { IsBetweenCalls shared.now core.new }
+    ensures between { IsBetweenCalls table.now core.new }
 {
     let asked = Call::Make {
         dir: ROOT,
         name,
         kind: Kind::File,
     };
-    make_call(rt, alloc, shared, core, NODES, NUMBERS, asked, &NoGate).is_some()
+    make_call(rt, alloc, table, core, asked, &NoGate).is_some()
 }
 
 // Whether a log has one change of the root, with stamp 0: the first file of core 0 was added.
@@ -80,21 +73,22 @@ fn has_first(logs: &[LogPart]) -> Option<bool> {
 fn looks<R: Wait>(
     rt: &R,
     alloc: Global,
-    shared: &FileShared,
+    table: &TreeTable,
     core: &mut FileCore,
     node: NodeId,
     whole: bool,
 ) -> Option<bool>
-    requires table { IsCallTable shared.now 4 2 NODES }
-    requires core { IsBetweenCalls shared.now core.old }
+    requires core { IsBetweenCalls table.now core.old }
     ensures same { IsSameCore core.old core.new }
-    ensures between { IsBetweenCalls shared.now core.new }
+    ensures between { IsBetweenCalls table.now core.new }
 {
     if core.reserve(0, 2).is_err() {
         return None;
     }
-    hold_nodes(rt, shared, core, NODES, &[ROOT]);
-    let logs = copy_logs(rt, alloc, shared, core, NODES, CORES, &[node], whole);
+    let shared = table.shared();
+    let nodes = table.nodes();
+    hold_nodes(rt, shared, core, nodes, &[ROOT]);
+    let logs = copy_logs(rt, alloc, shared, core, nodes, CORES, &[node], whole);
     core.let_go(shared, 0);
     match logs {
         Ok(logs) => has_first(&logs),
@@ -106,27 +100,27 @@ fn looks<R: Wait>(
 fn a_look_copies_what_its_node_asks_for_of_the_logs_of_all_cores(rt: HostRuntime) {
     let alloc = rt.alloc();
     let tree = got(&rt, root_alone(alloc, 4, 2, CORES));
-    let (shared, mut cores) = got(&rt, begun(alloc, &tree, 4, 2, CORES));
+    let (table, mut cores) = got(&rt, begun(alloc, &tree, 4, 2, CORES));
     let name = got(&rt, Name::new(alloc, b"a".as_slice()));
     let first = some(&rt, cores.get_mut(0));
-    holds(&rt, make_file(&rt, alloc, &shared, first, name));
+    holds(&rt, make_file(&rt, alloc, &table, first, name));
     let second = some(&rt, cores.get_mut(1));
     let made = NodeId(4);
     let other = NodeId(5);
     holds(
         &rt,
-        looks(&rt, alloc, &shared, second, ROOT, false) == Some(true),
+        looks(&rt, alloc, &table, second, ROOT, false) == Some(true),
     );
     holds(
         &rt,
-        looks(&rt, alloc, &shared, second, made, false) == Some(true),
+        looks(&rt, alloc, &table, second, made, false) == Some(true),
     );
     holds(
         &rt,
-        looks(&rt, alloc, &shared, second, other, false) == Some(false),
+        looks(&rt, alloc, &table, second, other, false) == Some(false),
     );
     holds(
         &rt,
-        looks(&rt, alloc, &shared, second, other, true) == Some(true),
+        looks(&rt, alloc, &table, second, other, true) == Some(true),
     );
 }

@@ -3,7 +3,7 @@
 ghost use Rattle.std.specs.Prelude.{◌≡◌, ◌+◌, ◌<◌, length};
 ghost use Rattle.tree_laws.specs.Sound.{IsSound};
 ghost use Rattle.stamp_table.specs.Table.{IsBetweenCalls, IsSameCore};
-ghost use Rattle.begun_tables.specs.Begun.{BeginsTable, IsCallTable};
+ghost use Rattle.begun_tables.specs.Begun.{BeginsTable};
 
 use crate::helpers::{got, holds, some};
 
@@ -23,8 +23,8 @@ use begun::{FIRST, SHARE, begun_tree};
 use begun_tables::{begun, make_call};
 use drawn::Draw;
 use judged::judged;
-use mem_calls::Numbers;
-use mem_values::{FileCore, FileShared};
+use mem_calls::TreeTable;
+use mem_values::FileCore;
 use sfs_base::{CoreId, Gate, NoGate};
 use sfs_tree::Tree;
 use std::alloc::Global;
@@ -42,49 +42,39 @@ const EACH: u32 = 50_000;
 pub(crate) fn ask<R: Wait, G: Gate>(
     rt: &R,
     alloc: Global,
-    shared: &FileShared,
+    table: &TreeTable,
     core: &mut FileCore,
-    nodes: u32,
     asked: Asked,
     gate: &G,
 ) -> Option<Reply>
-    requires table { IsCallTable shared.now FIRST SHARE nodes }
-    requires core { IsBetweenCalls shared.now core.old }
+    requires core { IsBetweenCalls table.now core.old }
     ensures same { IsSameCore core.old core.new }
-    ensures between { IsBetweenCalls shared.now core.new }
+    ensures between { IsBetweenCalls table.now core.new }
 {
     let call = call_of(alloc, asked)?;
-    let numbers = Numbers {
-        first: FIRST,
-        share: SHARE,
-    };
-    make_call(rt, alloc, shared, core, nodes, numbers, call, gate)
+    make_call(rt, alloc, table, core, numbers, call, gate)
 }
 
 // Whether a call has the reply that a plain tree answers, which makes the same call.
 fn agrees<R: Wait + Abort>(
     rt: &R,
     alloc: Global,
-    shared: &FileShared,
+    table: &TreeTable,
     core: &mut FileCore,
     tree: &mut Tree,
     asked: Asked,
 ) -> Reply
-    requires table { IsCallTable shared.now FIRST SHARE (FIRST + SHARE) }
-    requires core { IsBetweenCalls shared.now core.old }
+    requires core { IsBetweenCalls table.now core.old }
     requires sound { IsSound tree.old }
     requires known { 0 < length tree.old.made }
     ensures same { IsSameCore core.old core.new }
-    ensures between { IsBetweenCalls shared.now core.new }
+    ensures between { IsBetweenCalls table.now core.new }
     ensures sound { IsSound tree.new }
     ensures cores { length tree.new.made ≡ length tree.old.made }
 {
     let call = some(rt, call_of(alloc, asked));
     let due = got(rt, tree.step(CoreId(0), &call));
-    let reply = some(
-        rt,
-        ask(rt, alloc, shared, core, FIRST + SHARE, asked, &NoGate),
-    );
+    let reply = some(rt, ask(rt, alloc, table, core, asked, &NoGate));
     holds(rt, reply.equals(&due));
     reply
 }
@@ -93,21 +83,20 @@ fn agrees<R: Wait + Abort>(
 fn make_drawn<R: Wait + Abort>(
     rt: &R,
     alloc: Global,
-    shared: &FileShared,
+    table: &TreeTable,
     core: &mut FileCore,
     tree: &mut Tree,
     count: u32,
 )
-    requires table { IsCallTable shared.now FIRST SHARE (FIRST + SHARE) }
-    requires core { IsBetweenCalls shared.now core.old }
+    requires core { IsBetweenCalls table.now core.old }
     requires sound { IsSound tree.old }
     requires known { 0 < length tree.old.made }
     ensures same { IsSameCore core.old core.new }
-    ensures between { IsBetweenCalls shared.now core.new }
+    ensures between { IsBetweenCalls table.now core.new }
 {
     let mut draw = Draw::of(CoreId(0));
     for _ in 0..count {
-        let reply = agrees(rt, alloc, shared, core, tree, draw.asked());
+        let reply = agrees(rt, alloc, table, core, tree, draw.asked());
         draw.note(&reply);
     }
 }
@@ -117,9 +106,9 @@ fn drawn_history<R: Wait + Abort>(rt: &R, alloc: Global, tree: &Tree, count: u32
     requires tree { BeginsTable tree.now FIRST SHARE 1 }
 {
     let mut plain = got(rt, tree.copy());
-    let (shared, mut cores) = got(rt, begun(alloc, tree, FIRST, SHARE, 1));
-    make_drawn(rt, alloc, &shared, &mut cores[0], &mut plain, count);
-    let (history, _) = shared.close(cores);
+    let (table, mut cores) = got(rt, begun(alloc, tree, FIRST, SHARE, 1));
+    make_drawn(rt, alloc, &table, &mut cores[0], &mut plain, count);
+    let (history, _) = table.into_shared().close(cores);
     history
 }
 

@@ -2,7 +2,7 @@
 ghost use Rattle.stamp_table.specs.Table.{IsBetweenCalls};
 ghost use Rattle.journal_set.specs.Ready.{IsReady};
 ghost use Rattle.fsync_dir.specs.Site.{ToldAsReserved};
-ghost use Rattle.workers.specs.Works.{IsBasisOf, Rests};
+ghost use Rattle.workers.specs.Works.{Rests};
 ghost use Rattle.mount.specs.Serving.{ServesAt};
 ghost use Rattle.mount.specs.Volume.{IsVolume};
 ghost use Rattle.mount.specs.Workers.{AgreeAt, AreWorkers};
@@ -21,7 +21,7 @@ use std::alloc::Global;
 use std::process::Abort;
 use std::sync::Wait;
 use tree_laws::{Call, Reply};
-use workers::{Basis, Worker};
+use workers::Worker;
 
 const NOTE: NodeId = NodeId(64);
 
@@ -34,13 +34,14 @@ fn flushed_alone<R: Wait>(
     pen: &mut Pen<Memory>,
     node: NodeId,
 ) -> Option<Reply>
-    requires site { ServesAt site.now.shared.now site.now.set.now site.now.nodes site.now.cores }
-    requires between { IsBetweenCalls site.now.shared.now core.old }
+    requires site { ServesAt site.now.table.now site.now.set.now site.now.cores }
+    requires between { IsBetweenCalls site.now.table.now core.old }
     requires ready { IsReady site.now.set.now pen.old }
     requires agree { ToldAsReserved core.old pen.old }
 {
     core.reserve(1, STAMP_CELLS).ok()?;
-    if node.0 < site.nodes && has_inode(rt, site.shared, core, site.nodes, node) {
+    let nodes = site.table.nodes();
+    if node.0 < nodes && has_inode(rt, site.table.shared(), core, nodes, node) {
         Some(fsync_file::flush(rt, alloc, site, core, pen, node, &NoGate))
     } else {
         None
@@ -52,12 +53,10 @@ fn assert_flushed_alone<R: Wait + Abort>(
     rt: &R,
     alloc: Global,
     site: &FlushSite<Memory>,
-    basis: Basis,
     worker: &mut Worker<Pen<Memory>>,
 )
-    requires site { ServesAt site.now.shared.now site.now.set.now site.now.nodes site.now.cores }
-    requires basis { IsBasisOf site.now.shared.now basis }
-    requires rest { Rests site.now.shared.now (AgreeAt site.now.shared.now site.now.set.now) worker.old }
+    requires site { ServesAt site.now.table.now site.now.set.now site.now.cores }
+    requires rest { Rests site.now.table.now (AgreeAt site.now.table.now site.now.set.now) worker.old }
 {
     let asked = Call::Make {
         dir: NodeId(0),
@@ -68,15 +67,15 @@ fn assert_flushed_alone<R: Wait + Abort>(
         node: NOTE,
         kind: Kind::File,
     };
-    assert_answered(rt, alloc, site, basis, worker, asked, &due);
+    assert_answered(rt, alloc, site, worker, asked, &due);
     let asked = Call::Fsync { node: NOTE };
-    assert_answered(rt, alloc, site, basis, worker, asked, &Reply::Ok);
+    assert_answered(rt, alloc, site, worker, asked, &Reply::Ok);
     let asked = Call::Write {
         file: NOTE,
         at: 0,
         bytes: chunk(rt, alloc),
     };
-    assert_answered(rt, alloc, site, basis, worker, asked, &Reply::Ok);
+    assert_answered(rt, alloc, site, worker, asked, &Reply::Ok);
     let is = flushed_alone(rt, alloc, site, &mut worker.core, &mut worker.pen, NOTE);
     holds(rt, matches!(is, Some(Reply::Ok)));
 }
@@ -93,7 +92,7 @@ fn assert_volume<R: Wait + Abort>(
 {
     holds(rt, workers.len() == 2);
     let site = volume.site();
-    assert_flushed_alone(rt, alloc, &site, volume.basis, &mut workers[0]);
+    assert_flushed_alone(rt, alloc, &site, &mut workers[0]);
 }
 
 #[test]

@@ -1,6 +1,6 @@
 // Calls of one worker of a volume, each by itself and with ample memory.
 ghost use Rattle.tree_laws.specs.Step.{IsReadable};
-ghost use Rattle.workers.specs.Works.{IsBasisOf, Rests};
+ghost use Rattle.workers.specs.Works.{Rests};
 ghost use Rattle.mount.specs.Serving.{ServesAt};
 ghost use Rattle.mount.specs.Volume.{IsVolume};
 ghost use Rattle.mount.specs.Workers.{AgreeAt, AreWorkers};
@@ -17,7 +17,7 @@ use std::alloc::Global;
 use std::process::Abort;
 use std::sync::Wait;
 use tree_laws::{Call, Reply};
-use workers::{Basis, Worker};
+use workers::Worker;
 
 pub(crate) const LAYOUT: Layout = Layout {
     blocks: 128,
@@ -31,21 +31,16 @@ pub(crate) fn assert_answered<R: Wait + Abort>(
     rt: &R,
     alloc: Global,
     site: &FlushSite<Memory>,
-    basis: Basis,
     worker: &mut Worker<Pen<Memory>>,
     asked: Call,
     due: &Reply,
 )
-    requires site { ServesAt site.now.shared.now site.now.set.now site.now.nodes site.now.cores }
-    requires basis { IsBasisOf site.now.shared.now basis }
-    requires rest { Rests site.now.shared.now (AgreeAt site.now.shared.now site.now.set.now) worker.old }
+    requires site { ServesAt site.now.table.now site.now.set.now site.now.cores }
+    requires rest { Rests site.now.table.now (AgreeAt site.now.table.now site.now.set.now) worker.old }
     requires readable { IsReadable asked }
-    ensures { Rests site.now.shared.now (AgreeAt site.now.shared.now site.now.set.now) worker.new }
+    ensures { Rests site.now.table.now (AgreeAt site.now.table.now site.now.set.now) worker.new }
 {
-    let is = got(
-        rt,
-        make_call(rt, alloc, site, basis, worker, asked, &NoGate),
-    );
+    let is = got(rt, make_call(rt, alloc, site, worker, asked, &NoGate));
     holds(rt, is.equals(due));
 }
 
@@ -71,12 +66,10 @@ fn assert_errand<R: Wait + Abort>(
     rt: &R,
     alloc: Global,
     site: &FlushSite<Memory>,
-    basis: Basis,
     worker: &mut Worker<Pen<Memory>>,
 )
-    requires site { ServesAt site.now.shared.now site.now.set.now site.now.nodes site.now.cores }
-    requires basis { IsBasisOf site.now.shared.now basis }
-    requires rest { Rests site.now.shared.now (AgreeAt site.now.shared.now site.now.set.now) worker.old }
+    requires site { ServesAt site.now.table.now site.now.set.now site.now.cores }
+    requires rest { Rests site.now.table.now (AgreeAt site.now.table.now site.now.set.now) worker.old }
 {
     let asked = Call::Make {
         dir: NodeId(0),
@@ -87,7 +80,7 @@ fn assert_errand<R: Wait + Abort>(
         node: HOME,
         kind: Kind::Directory,
     };
-    assert_answered(rt, alloc, site, basis, worker, asked, &due);
+    assert_answered(rt, alloc, site, worker, asked, &due);
     let asked = Call::Make {
         dir: HOME,
         name: name(rt, alloc, "note"),
@@ -97,15 +90,15 @@ fn assert_errand<R: Wait + Abort>(
         node: NOTE,
         kind: Kind::File,
     };
-    assert_answered(rt, alloc, site, basis, worker, asked, &due);
+    assert_answered(rt, alloc, site, worker, asked, &due);
     let asked = Call::Write {
         file: NOTE,
         at: 0,
         bytes: chunk(rt, alloc),
     };
-    assert_answered(rt, alloc, site, basis, worker, asked, &Reply::Ok);
+    assert_answered(rt, alloc, site, worker, asked, &Reply::Ok);
     let asked = Call::Fsync { node: NOTE };
-    assert_answered(rt, alloc, site, basis, worker, asked, &Reply::Ok);
+    assert_answered(rt, alloc, site, worker, asked, &Reply::Ok);
     let asked = Call::Read {
         file: NOTE,
         at: 0,
@@ -114,7 +107,7 @@ fn assert_errand<R: Wait + Abort>(
     let due = Reply::Bytes {
         bytes: chunk(rt, alloc),
     };
-    assert_answered(rt, alloc, site, basis, worker, asked, &due);
+    assert_answered(rt, alloc, site, worker, asked, &due);
 }
 
 // Has the first of the two workers of a volume make these calls.
@@ -129,7 +122,7 @@ fn assert_called<R: Wait + Abort>(
 {
     holds(rt, workers.len() == 2);
     let site = volume.site();
-    assert_errand(rt, alloc, &site, volume.basis, &mut workers[0]);
+    assert_errand(rt, alloc, &site, &mut workers[0]);
 }
 
 #[test]

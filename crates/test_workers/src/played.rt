@@ -5,15 +5,13 @@ ghost use Rattle.script.specs.Ready.{LinesMayRun};
 ghost use Rattle.stamp_table.specs.Table.{AreAllCores, AreNew, IsBetweenCalls, IsSameCore};
 ghost use Rattle.begun_tables.specs.Begun.{BeginsTable};
 ghost use Rattle.workers.specs.Keeping.{agree_always};
-ghost use Rattle.workers.specs.Works.{IsBasisOf, Rests};
+ghost use Rattle.workers.specs.Works.{Rests};
 ghost use Rattle.test_workers.specs.Teams.{new_worker, worker_core, AreSameCores};
 
 use crate::helpers::got;
-use begun_tables::root_alone;
-use disk_nodes::OldDisk;
-use mem_begin::make;
-use mem_calls::Numbers;
-use mem_values::{FileCore, FileShared};
+use begun_tables::{begun, root_alone};
+use mem_calls::TreeTable;
+use mem_values::FileCore;
 use script::{Phase, Script, read};
 use sfs_base::{Gate, NoMemory};
 use sfs_tree::Tree;
@@ -22,7 +20,7 @@ use std::process::Abort;
 use std::sync::Wait;
 use std::thread::Threads;
 use tree_laws::History;
-use workers::{Basis, Plainly, Worker, drive_plainly};
+use workers::{Plainly, Worker, drive_plainly};
 
 // The number of the first new node.
 pub(crate) const FIRST: u32 = 8;
@@ -71,22 +69,20 @@ fn cores_of(alloc: Global, workers: Vec<Worker<()>>) -> Result<Vec<FileCore>, No
 fn drive_all<R: Threads + Wait + Sync, G: Gate>(
     rt: &R,
     alloc: Global,
-    shared: &FileShared,
+    table: &TreeTable,
     workers: &mut [Worker<()>],
-    basis: Basis,
     phases: &[Phase],
     plainly: Plainly,
     gate: &G,
 ) -> bool
-    requires basis { IsBasisOf shared.now basis }
-    requires rest { All (Rests shared.now agree_always) workers.old }
+    requires rest { All (Rests table.now agree_always) workers.old }
     requires ready { AllByRecursion LinesMayRun phases.now }
     ensures count { length workers.new ≡ length workers.old }
-    ensures rest { All (Rests shared.now agree_always) workers.new }
+    ensures rest { All (Rests table.now agree_always) workers.new }
     ensures same { AreSameCores workers.old workers.new }
 {
     for phase in phases {
-        if drive_plainly(rt, alloc, shared, workers, basis, phase, plainly, gate).is_err() {
+        if drive_plainly(rt, alloc, table, workers, phase, plainly, gate).is_err() {
             return false;
         }
     }
@@ -123,27 +119,18 @@ pub(crate) fn played<R: Threads + Wait + Sync + Abort, G: Gate>(
     requires share { share ≤ 1000 }
 {
     let tree = first_tree(rt, alloc, share, cores);
-    let nodes = FIRST + share * cores as u32;
-    let basis = Basis {
-        nodes,
-        numbers: Numbers {
-            first: FIRST,
-            share,
-        },
-    };
-    let (shared, hands) = got(rt, make(alloc, &tree, OldDisk::new(alloc), nodes, cores));
+    let (table, hands) = got(rt, begun(alloc, &tree, FIRST, share, cores));
     let mut workers = got(rt, workers_of(alloc, hands));
     let ended = drive_all(
         rt,
         alloc,
-        &shared,
+        &table,
         workers.as_mut_slice(),
-        basis,
         script.phases(),
         plainly,
         gate,
     );
     let hands = got(rt, cores_of(alloc, workers));
-    let (history, _) = shared.close(hands);
+    let (history, _) = table.into_shared().close(hands);
     PlayedScript { history, ended }
 }

@@ -9,16 +9,9 @@ use Rattle.script.specs.Walks.{next_call, commands_of}
 use Rattle.script.specs.Follows.{replies_of, Makes}
 use Rattle.stamp_table.specs.Table.{IsBetweenCalls, IsSameCore}
 use Rattle.mem_values.specs.Start.{FileHand, FileState}
-use Rattle.mem_calls.specs.Table.{IsFileTable, AreNumbersOf}
 use Rattle.fsync_stamp.specs.Adding.{calls_seen}
-use Rattle.workers.specs.declared.worker.Basis.{Basis}
 use Rattle.workers.specs.declared.worker.Worker.{Worker}
 use Rattle.workers.specs.Phases.{AreBefore, AreFrom}
-
--- the table of a file tree, with its count of nodes and by what its cores number new ones
-pub record IsBasisOf (t : FileState) (basis : Basis) : Type 0 where
-  pub table : IsFileTable t basis.nodes
-  pub numbers : AreNumbersOf t.first basis.numbers
 
 module _ {P : Type 0} (t : FileState) (agrees : FileHand → P → Type 0) where
   -- A worker that rests: its core is between two calls and agrees with its pen, and none of its entries has reached the number at which it

@@ -3,13 +3,13 @@ ghost use Rattle.std.specs.Prelude.{◌≡◌};
 ghost use Rattle.tree_laws.specs.Step.{IsReadable};
 ghost use Rattle.stamp_table.specs.Table.{IsBetweenCalls, IsSameCore};
 ghost use Rattle.workers.specs.Keeping.{AddsOrRefused};
-ghost use Rattle.workers.specs.Works.{IsBasisOf, Rests};
+ghost use Rattle.workers.specs.Works.{Rests};
 
 use crate::Flush;
-use crate::worker::{Basis, Worker};
-use mem_calls::call;
+use crate::worker::Worker;
+use mem_calls::{TreeTable, call};
 use mem_rename::{Move, RENAME_CELLS, rename};
-use mem_values::{FileCore, FileShared};
+use mem_values::FileCore;
 use sfs_base::{Gate, NoMemory};
 use std::alloc::Global;
 use std::sync::Wait;
@@ -19,21 +19,19 @@ use tree_laws::{Call, Reply};
 pub(crate) fn make_call<R: Wait, F: Flush, G: Gate>(
     rt: &R,
     alloc: Global,
-    shared: &FileShared,
+    table: &TreeTable,
     core: &mut FileCore,
     pen: &mut F::Pen,
-    basis: Basis,
     asked: Call,
     flush: &F,
     gate: &G,
 ) -> Result<Reply, NoMemory>
-    requires basis { IsBasisOf shared.now basis }
-    requires flush { F.table flush.now ≡ shared.now }
-    requires core { IsBetweenCalls shared.now core.old }
+    requires flush { F.table flush.now ≡ table.now }
+    requires core { IsBetweenCalls table.now core.old }
     requires agrees { F.agrees flush.now core.old pen.old }
     requires readable { IsReadable asked }
     ensures made { AddsOrRefused asked core.old core.new result }
-    ensures between { IsBetweenCalls shared.now core.new }
+    ensures between { IsBetweenCalls table.now core.new }
     ensures same { IsSameCore core.old core.new }
     ensures agrees { F.agrees flush.now core.new pen.new }
 {
@@ -51,19 +49,10 @@ pub(crate) fn make_call<R: Wait, F: Flush, G: Gate>(
                 to_directory,
                 to_name,
             };
-            rename(rt, alloc, shared, core, basis.nodes, move_, gate)
+            rename(rt, alloc, table, core, move_, gate)
         }
         Call::Fsync { node } => Ok(flush.fsync(rt, alloc, core, pen, node, gate)),
-        other => call(
-            rt,
-            alloc,
-            shared,
-            core,
-            basis.nodes,
-            basis.numbers,
-            other,
-            gate,
-        ),
+        other => call(rt, alloc, table, core, other, gate),
     }
 }
 
@@ -71,29 +60,27 @@ pub(crate) fn make_call<R: Wait, F: Flush, G: Gate>(
 pub fn call_worker<R: Wait, F: Flush, G: Gate>(
     rt: &R,
     alloc: Global,
-    shared: &FileShared,
+    table: &TreeTable,
     worker: &mut Worker<F::Pen>,
-    basis: Basis,
     asked: Call,
     flush: &F,
     gate: &G,
 ) -> Result<Reply, NoMemory>
-    requires basis { IsBasisOf shared.now basis }
-    requires flush { F.table flush.now ≡ shared.now }
-    requires rest { Rests shared.now (F.agrees flush.now) worker.old }
+    requires flush { F.table flush.now ≡ table.now }
+    requires rest { Rests table.now (F.agrees flush.now) worker.old }
     requires readable { IsReadable asked }
     ensures made { AddsOrRefused asked worker.old.core worker.new.core result }
-    ensures rest { Rests shared.now (F.agrees flush.now) worker.new }
+    ensures rest { Rests table.now (F.agrees flush.now) worker.new }
     ensures same { IsSameCore worker.old.core worker.new.core }
 {
+    let shared = table.shared();
     worker.core.look_for(rt, shared, worker.until);
     let made = make_call(
         rt,
         alloc,
-        shared,
+        table,
         &mut worker.core,
         &mut worker.pen,
-        basis,
         asked,
         flush,
         gate,

@@ -3,11 +3,12 @@ ghost use Rattle.std.specs.Prelude.{◌≡◌, ℕ, ◌≤◌, All, length, is_e
 ghost use Rattle.stamp_table.specs.Table.{IsBetweenCalls};
 ghost use Rattle.script.specs.Ready.{LinesMayRun};
 ghost use Rattle.script.specs.Walks.{commands_of};
-ghost use Rattle.workers.specs.Works.{IsBasisOf, MakesCalls, Rests, Works, WorksEach, any_refused};
+ghost use Rattle.workers.specs.Works.{MakesCalls, Rests, Works, WorksEach, any_refused};
 
 use crate::calls::make_call;
-use crate::{Basis, Flush, Worker};
-use mem_values::{FileCore, FileShared};
+use crate::{Flush, Worker};
+use mem_calls::TreeTable;
+use mem_values::FileCore;
 use script::{Course, Phase};
 use sfs_base::{Gate, NoMemory};
 use std::alloc::Global;
@@ -21,24 +22,22 @@ const MOST_THREADS: usize = 256;
 fn make_calls<R: Wait, F: Flush, G: Gate>(
     rt: &R,
     alloc: Global,
-    shared: &FileShared,
+    table: &TreeTable,
     core: &mut FileCore,
     pen: &mut F::Pen,
-    basis: Basis,
     phase: &Phase,
     flush: &F,
     gate: &G,
 ) -> Result<(), NoMemory>
-    requires basis { IsBasisOf shared.now basis }
-    requires flush { F.table flush.now ≡ shared.now }
-    requires core { IsBetweenCalls shared.now core.old }
+    requires flush { F.table flush.now ≡ table.now }
+    requires core { IsBetweenCalls table.now core.old }
     requires agrees { F.agrees flush.now core.old pen.old }
     requires ready { LinesMayRun phase.now }
-    ensures { MakesCalls shared.now (F.agrees flush.now) (commands_of core.old.view.core phase.now) core.old core.new pen.new (is_err result) }
+    ensures { MakesCalls table.now (F.agrees flush.now) (commands_of core.old.view.core phase.now) core.old core.new pen.new (is_err result) }
 {
     let mut course = Course::new(u16::from(core.number().0), phase);
     while let Some(call) = course.next_call()? {
-        let reply = make_call(rt, alloc, shared, core, pen, basis, call, flush, gate)?;
+        let reply = make_call(rt, alloc, table, core, pen, call, flush, gate)?;
         course.take(&reply);
     }
     Ok(())
@@ -48,29 +47,27 @@ fn make_calls<R: Wait, F: Flush, G: Gate>(
 fn work<R: Wait, F: Flush, G: Gate>(
     rt: &R,
     alloc: Global,
-    shared: &FileShared,
+    table: &TreeTable,
     worker: &mut Worker<F::Pen>,
-    basis: Basis,
     phase: &Phase,
     from: u64,
     flush: &F,
     gate: &G,
 )
-    requires basis { IsBasisOf shared.now basis }
-    requires flush { F.table flush.now ≡ shared.now }
-    requires rest { Rests shared.now (F.agrees flush.now) worker.old }
+    requires flush { F.table flush.now ≡ table.now }
+    requires rest { Rests table.now (F.agrees flush.now) worker.old }
     requires reached { worker.old.until ≤ from }
     requires ready { LinesMayRun phase.now }
-    ensures { Works shared.now (F.agrees flush.now) (commands_of worker.old.core.view.core phase.now) from worker.old worker.new }
+    ensures { Works table.now (F.agrees flush.now) (commands_of worker.old.core.view.core phase.now) from worker.old worker.new }
 {
+    let shared = table.shared();
     worker.core.look_for(rt, shared, from);
     let made = make_calls(
         rt,
         alloc,
-        shared,
+        table,
         &mut worker.core,
         &mut worker.pen,
-        basis,
         phase,
         flush,
         gate,
@@ -109,19 +106,17 @@ fn none_refused<P>(workers: &[Worker<P>]) -> Result<(), NoMemory>
 pub fn drive<R: Threads + Wait + Sync, F: Flush + Sync, G: Gate>(
     rt: &R,
     alloc: Global,
-    shared: &FileShared,
+    table: &TreeTable,
     workers: &mut [Worker<F::Pen>],
-    basis: Basis,
     phase: &Phase,
     flush: &F,
     gate: &G,
 ) -> Result<(), NoMemory>
-    requires basis { IsBasisOf shared.now basis }
-    requires flush { F.table flush.now ≡ shared.now }
-    requires rest { All (Rests shared.now (F.agrees flush.now)) workers.old }
+    requires flush { F.table flush.now ≡ table.now }
+    requires rest { All (Rests table.now (F.agrees flush.now)) workers.old }
     requires ready { LinesMayRun phase.now }
     ensures count { length workers.new ≡ length workers.old }
-    ensures each { (from : ℕ) × WorksEach shared.now (F.agrees flush.now) phase.now from workers.old workers.new }
+    ensures each { (from : ℕ) × WorksEach table.now (F.agrees flush.now) phase.now from workers.old workers.new }
     ensures refused { is_err result ≡ any_refused workers.new }
 {
     let from = reached(workers);
@@ -130,9 +125,9 @@ pub fn drive<R: Threads + Wait + Sync, F: Flush + Sync, G: Gate>(
         workers,
         MOST_THREADS,
         &|_number, worker: &mut Worker<F::Pen>|
-            requires { IsBasisOf shared.now basis × (F.table flush.now ≡ shared.now) × Rests shared.now (F.agrees flush.now) worker.now × (worker.now.until ≤ from) × LinesMayRun phase.now }
-            ensures { Works shared.entry.now (F.agrees flush.entry.now) (commands_of worker.entry.now.core.view.core phase.entry.now) from worker.entry.now worker.exit.now }
-        { work(rt, alloc, shared, worker, basis, phase, from, flush, gate) },
+            requires { (F.table flush.now ≡ table.now) × Rests table.now (F.agrees flush.now) worker.now × (worker.now.until ≤ from) × LinesMayRun phase.now }
+            ensures { Works table.entry.now (F.agrees flush.entry.now) (commands_of worker.entry.now.core.view.core phase.entry.now) from worker.entry.now worker.exit.now }
+        { work(rt, alloc, table, worker, phase, from, flush, gate) },
     );
     none_refused(workers)
 }

@@ -5,7 +5,8 @@ ghost use Rattle.workers.specs.Keeping.{KeepsFsyncs};
 ghost use Rattle.workers.specs.Serving.{Serves};
 
 use crate::Flush;
-use mem_values::{FileCore, FileShared};
+use mem_calls::TreeTable;
+use mem_values::FileCore;
 use sfs_base::{Gate, NodeId};
 use std::alloc::Global;
 use std::marker::PhantomData;
@@ -24,7 +25,7 @@ pub trait Agreement<S, P> {
 /// A way to flush: a function serves each fsync of the cores of a table, with what all pens share at hand.
 #[derive(Drop)]
 pub struct FlushBy<'a, S, P, A, C> {
-    pub files: &'a FileShared,
+    pub files: &'a TreeTable,
     pub set: &'a S,
     pub serve: C,
     pub kinds: PhantomData<(P, A)>,

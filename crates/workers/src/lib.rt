@@ -14,4 +14,4 @@ pub use driving::drive;
 pub use flush::Flush;
 pub use flush_by::{Agreement, FlushBy};
 pub use plain::{AgreeAlways, Plainly, drive_plainly, serve_plainly};
-pub use worker::{Basis, Worker};
+pub use worker::Worker;

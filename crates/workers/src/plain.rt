@@ -2,15 +2,15 @@
 ghost use Rattle.std.specs.Prelude.{◌≡◌, ℕ, ◌<◌, ◌≤◌, All, Option, Some, length, is_err};
 ghost use Rattle.script.specs.Ready.{LinesMayRun};
 ghost use Rattle.stamp_table.specs.Table.{GivesAnswer, IsBetweenCalls};
-ghost use Rattle.mem_calls.specs.Table.{IsFileTable};
 ghost use Rattle.fsync_stamp.specs.Stamping.{AnswersFsync};
 ghost use Rattle.workers.specs.Keeping.{agree_always};
-ghost use Rattle.workers.specs.Works.{IsBasisOf, Rests, WorksEach, any_refused};
+ghost use Rattle.workers.specs.Works.{Rests, WorksEach, any_refused};
 
 use crate::flush_by::{Agreement, FlushBy};
-use crate::{Basis, Worker, drive};
+use crate::{Worker, drive};
 use fsync_stamp::stamp_fsync;
-use mem_values::{FileCore, FileShared};
+use mem_calls::TreeTable;
+use mem_values::FileCore;
 use script::Phase;
 use sfs_base::{Gate, NoMemory, NodeId, Stamp};
 use std::alloc::Global;
@@ -56,20 +56,18 @@ fn answer_plainly(core: &mut FileCore, stamp: Stamp, plainly: Plainly) -> Reply
 pub fn serve_plainly<R: Wait, G: Gate>(
     rt: &R,
     alloc: Global,
-    shared: &FileShared,
+    table: &TreeTable,
     core: &mut FileCore,
-    nodes: u32,
     node: NodeId,
     plainly: Plainly,
     gate: &G,
 ) -> Reply
-    requires table { IsFileTable shared.now nodes }
-    requires core { IsBetweenCalls shared.now core.old }
+    requires core { IsBetweenCalls table.now core.old }
     requires spare { 0 < core.old.spare }
     requires room { 3 ≤ core.old.room }
-    ensures { AnswersFsync shared.now node result core.old core.new }
+    ensures { AnswersFsync table.now node result core.old core.new }
 {
-    match stamp_fsync(rt, alloc, shared, core, nodes, node, gate) {
+    match stamp_fsync(rt, alloc, table, core, node, gate) {
         Some(stamp) => answer_plainly(core, stamp, plainly),
         None => Reply::Error {
             code: Code::NoEntry,
@@ -81,31 +79,28 @@ pub fn serve_plainly<R: Wait, G: Gate>(
 pub fn drive_plainly<R: Threads + Wait + Sync, G: Gate>(
     rt: &R,
     alloc: Global,
-    shared: &FileShared,
+    table: &TreeTable,
     workers: &mut [Worker<()>],
-    basis: Basis,
     phase: &Phase,
     plainly: Plainly,
     gate: &G,
 ) -> Result<(), NoMemory>
-    requires basis { IsBasisOf shared.now basis }
-    requires rest { All (Rests shared.now agree_always) workers.old }
+    requires rest { All (Rests table.now agree_always) workers.old }
     requires ready { LinesMayRun phase.now }
     ensures count { length workers.new ≡ length workers.old }
-    ensures rest { All (Rests shared.now agree_always) workers.new }
-    ensures each { (from : ℕ) × WorksEach shared.now agree_always phase.now from workers.old workers.new }
+    ensures rest { All (Rests table.now agree_always) workers.new }
+    ensures each { (from : ℕ) × WorksEach table.now agree_always phase.now from workers.old workers.new }
     ensures refused { is_err result ≡ any_refused workers.new }
 {
-    let nodes = basis.nodes;
     let serve = |core: &mut FileCore, _pen: &mut (), node: NodeId| -> Reply
-        requires { IsFileTable shared.now nodes × IsBetweenCalls shared.now core.now × (0 < core.now.spare) × (3 ≤ core.now.room) }
-        ensures { AnswersFsync shared.entry.now node result core.entry.now core.exit.now }
-    { serve_plainly(rt, alloc, shared, core, nodes, node, plainly, gate) };
+        requires { IsBetweenCalls table.now core.now × (0 < core.now.spare) × (3 ≤ core.now.room) }
+        ensures { AnswersFsync table.entry.now node result core.entry.now core.exit.now }
+    { serve_plainly(rt, alloc, table, core, node, plainly, gate) };
     let flush: FlushBy<(), (), AgreeAlways, _> = FlushBy {
-        files: shared,
+        files: table,
         set: &(),
         serve,
         kinds: PhantomData,
     };
-    drive(rt, alloc, shared, workers, basis, phase, &flush, gate)
+    drive(rt, alloc, table, workers, phase, &flush, gate)
 }

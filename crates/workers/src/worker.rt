@@ -1,5 +1,4 @@
-// What one worker owns, and what all workers of a table know.
-use mem_calls::Numbers;
+// What one worker owns.
 use mem_values::FileCore;
 
 /// A worker: its core, the pen with which its fsyncs write, whether it was refused memory before a stamp in the last phase that it ran, and
@@ -10,11 +9,4 @@ pub struct Worker<P> {
     pub pen: P,
     pub refused: bool,
     pub until: u64,
-}
-
-/// How many nodes a table has, and by what its cores number those that they make.
-#[derive(Clone, Copy)]
-pub struct Basis {
-    pub nodes: u32,
-    pub numbers: Numbers,
 }

@@ -1,13 +1,13 @@
 // A core that is held inside a call while another one makes calls.
 ghost use Rattle.stamp_table.specs.Table.{IsBetweenCalls, IsSameCore};
-ghost use Rattle.begun_tables.specs.Begun.{IsCallTable};
 
 use crate::helpers::{got, holds};
 use crate::table_calls::ask;
 use crate::table_calls::asked::Asked::{self, Link, Look, Read, Rename, Trunc, Unlink, Write};
 use crate::table_calls::begun::{FIRST, SHARE, begun_tree};
 use crate::table_calls::tasks::{Task, shared_history};
-use mem_values::{FileCore, FileShared};
+use mem_calls::TreeTable;
+use mem_values::FileCore;
 use sfs_base::{CoreId, Gate, Place};
 use std::alloc::Global;
 use std::process::Abort;
@@ -121,21 +121,19 @@ pub(crate) fn comes_to(word: &AtomicU64, value: u64) -> bool {
 fn calls_beside<R: Wait>(
     rt: &R,
     alloc: Global,
-    shared: &FileShared,
+    table: &TreeTable,
     core: &mut FileCore,
-    nodes: u32,
     gate: &Meeting,
 ) -> bool
-    requires table { IsCallTable shared.now FIRST SHARE nodes }
-    requires core { IsBetweenCalls shared.now core.old }
+    requires core { IsBetweenCalls table.now core.old }
     ensures same { IsSameCore core.old core.new }
-    ensures between { IsBetweenCalls shared.now core.new }
+    ensures between { IsBetweenCalls table.now core.new }
 {
     if !gate.waits_for_first() {
         return false;
     }
     for asked in gate.scene.beside() {
-        if ask(rt, alloc, shared, core, nodes, asked, gate).is_none() {
+        if ask(rt, alloc, table, core, asked, gate).is_none() {
             return false;
         }
     }
@@ -146,20 +144,18 @@ fn calls_beside<R: Wait>(
 pub(crate) fn call_as_due<R: Wait>(
     rt: &R,
     alloc: Global,
-    shared: &FileShared,
+    table: &TreeTable,
     core: &mut FileCore,
-    nodes: u32,
     gate: &Meeting,
 )
-    requires table { IsCallTable shared.now FIRST SHARE nodes }
-    requires core { IsBetweenCalls shared.now core.old }
+    requires core { IsBetweenCalls table.now core.old }
     ensures same { IsSameCore core.old core.new }
-    ensures between { IsBetweenCalls shared.now core.new }
+    ensures between { IsBetweenCalls table.now core.new }
 {
     let made = if core.number().0 == 0 {
-        ask(rt, alloc, shared, core, nodes, gate.scene.held(), gate).is_some()
+        ask(rt, alloc, table, core, gate.scene.held(), gate).is_some()
     } else {
-        calls_beside(rt, alloc, shared, core, nodes, gate)
+        calls_beside(rt, alloc, table, core, gate)
     };
     if made {
         gate.made.fetch_add(1, Ordering::SeqCst);

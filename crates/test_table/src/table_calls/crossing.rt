@@ -3,7 +3,6 @@
 ghost use Rattle.std.specs.Prelude.{◌≡◌, length};
 ghost use Rattle.tree_laws.specs.Sound.{IsSound};
 ghost use Rattle.stamp_table.specs.Table.{IsBetweenCalls, IsSameCore};
-ghost use Rattle.begun_tables.specs.Begun.{IsCallTable};
 
 use crate::helpers::{got, holds};
 use crate::table_calls::ask;
@@ -11,7 +10,8 @@ use crate::table_calls::asked::Asked::{self, Make, Rename, Stat, Unlink};
 use crate::table_calls::begun::{FIRST, SHARE, begun_tree};
 use crate::table_calls::judged::{is_code, is_due};
 use crate::table_calls::tasks::{Task, shared_history};
-use mem_values::{FileCore, FileShared};
+use mem_calls::TreeTable;
+use mem_values::FileCore;
 use sfs_base::{CoreId, Kind, NoGate, NoMemory};
 use sfs_tree::Tree;
 use std::alloc::Global;
@@ -38,35 +38,26 @@ fn crossing(core: CoreId, round: u64) -> Asked {
 fn cross_once<R: Wait>(
     rt: &R,
     alloc: Global,
-    shared: &FileShared,
+    table: &TreeTable,
     core: &mut FileCore,
-    nodes: u32,
     round: u64,
 ) -> bool
-    requires table { IsCallTable shared.now FIRST SHARE nodes }
-    requires core { IsBetweenCalls shared.now core.old }
+    requires core { IsBetweenCalls table.now core.old }
     ensures same { IsSameCore core.old core.new }
-    ensures between { IsBetweenCalls shared.now core.new }
+    ensures between { IsBetweenCalls table.now core.new }
 {
     let asked = crossing(core.number(), round);
-    ask(rt, alloc, shared, core, nodes, asked, &NoGate).is_some()
+    ask(rt, alloc, table, core, asked, &NoGate).is_some()
 }
 
 // Makes all its calls, or those up to one that is refused memory.
-pub(crate) fn cross_often<R: Wait>(
-    rt: &R,
-    alloc: Global,
-    shared: &FileShared,
-    core: &mut FileCore,
-    nodes: u32,
-)
-    requires table { IsCallTable shared.now FIRST SHARE nodes }
-    requires core { IsBetweenCalls shared.now core.old }
+pub(crate) fn cross_often<R: Wait>(rt: &R, alloc: Global, table: &TreeTable, core: &mut FileCore)
+    requires core { IsBetweenCalls table.now core.old }
     ensures same { IsSameCore core.old core.new }
-    ensures between { IsBetweenCalls shared.now core.new }
+    ensures between { IsBetweenCalls table.now core.new }
 {
     for round in 0..ROUNDS {
-        if !cross_once(rt, alloc, shared, core, nodes, round) {
+        if !cross_once(rt, alloc, table, core, round) {
             return;
         }
     }

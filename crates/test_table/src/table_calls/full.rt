@@ -3,7 +3,7 @@
 ghost use Rattle.std.specs.Prelude.{◌+◌, ◌<◌, ◌≤◌, IfOk, length};
 ghost use Rattle.tree_laws.specs.Sound.{IsSound};
 ghost use Rattle.stamp_table.specs.Table.{IsBetweenCalls};
-ghost use Rattle.begun_tables.specs.Begun.{BeginsTable, IsBuiltTree, IsCallTable, KeepsNumbers};
+ghost use Rattle.begun_tables.specs.Begun.{BeginsTable, IsBuiltTree, KeepsNumbers};
 
 use crate::helpers::{got, holds};
 use crate::table_calls::agrees;
@@ -12,7 +12,8 @@ use crate::table_calls::begun::{FIRST, SHARE};
 use crate::table_calls::judged::is_code;
 use crate::table_calls::listed::make_listed;
 use begun_tables::{begun, put_node, put_row, root_alone};
-use mem_values::{FileCore, FileShared};
+use mem_calls::TreeTable;
+use mem_values::FileCore;
 use sfs_base::{Kind, Name, NoMemory, NodeId};
 use sfs_tree::Tree;
 use std::alloc::Global;
@@ -132,23 +133,22 @@ fn full_tree(rt: &impl Abort, alloc: Global) -> Result<Tree, NoMemory>
 fn make_all<R: Wait + Abort>(
     rt: &R,
     alloc: Global,
-    shared: &FileShared,
+    table: &TreeTable,
     core: &mut FileCore,
     tree: &mut Tree,
 )
-    requires table { IsCallTable shared.now FIRST SHARE (FIRST + SHARE) }
-    requires core { IsBetweenCalls shared.now core.old }
+    requires core { IsBetweenCalls table.now core.old }
     requires sound { IsSound tree.old }
     requires known { 0 < length tree.old.made }
-    ensures between { IsBetweenCalls shared.now core.new }
+    ensures between { IsBetweenCalls table.now core.new }
 {
     for _ in 0..SHARE {
-        let made = agrees(rt, alloc, shared, core, tree, Make(0, "n", Kind::File));
-        let gone = agrees(rt, alloc, shared, core, tree, Unlink(0, "n"));
+        let made = agrees(rt, alloc, table, core, tree, Make(0, "n", Kind::File));
+        let gone = agrees(rt, alloc, table, core, tree, Unlink(0, "n"));
         holds(rt, is_code(&made, None) && is_code(&gone, None));
     }
-    let none = agrees(rt, alloc, shared, core, tree, Make(0, "n", Kind::Directory));
-    let full = agrees(rt, alloc, shared, core, tree, Make(3, "gggggg", Kind::File));
+    let none = agrees(rt, alloc, table, core, tree, Make(0, "n", Kind::Directory));
+    let full = agrees(rt, alloc, table, core, tree, Make(3, "gggggg", Kind::File));
     holds(rt, is_code(&none, Some(Code::NoNodes)));
     holds(rt, is_code(&full, Some(Code::DirFull)));
 }
@@ -158,9 +158,9 @@ fn make_full<R: Wait + Abort>(rt: &R, alloc: Global, tree: &Tree)
     requires tree { BeginsTable tree.now FIRST SHARE 1 }
 {
     let mut plain = got(rt, tree.copy());
-    let (shared, mut cores) = got(rt, begun(alloc, tree, FIRST, SHARE, 1));
-    make_listed(rt, alloc, &shared, &mut cores[0], &mut plain, &FULL);
-    make_all(rt, alloc, &shared, &mut cores[0], &mut plain);
+    let (table, mut cores) = got(rt, begun(alloc, tree, FIRST, SHARE, 1));
+    make_listed(rt, alloc, &table, &mut cores[0], &mut plain, &FULL);
+    make_all(rt, alloc, &table, &mut cores[0], &mut plain);
 }
 
 #[test]

@@ -2,7 +2,7 @@
 ghost use Rattle.std.specs.Prelude.{◌+◌, ◌<◌, length};
 ghost use Rattle.tree_laws.specs.Sound.{IsSound};
 ghost use Rattle.stamp_table.specs.Table.{IsBetweenCalls, IsSameCore};
-ghost use Rattle.begun_tables.specs.Begun.{BeginsTable, IsCallTable};
+ghost use Rattle.begun_tables.specs.Begun.{BeginsTable};
 
 use crate::helpers::{got, holds};
 use crate::table_calls::agrees;
@@ -12,7 +12,8 @@ use crate::table_calls::asked::Asked::{
 use crate::table_calls::begun::{FIRST, SHARE, begun_tree};
 use crate::table_calls::judged::{is_code, is_listed};
 use begun_tables::begun;
-use mem_values::{FileCore, FileShared};
+use mem_calls::TreeTable;
+use mem_values::FileCore;
 use sfs_base::Kind;
 use sfs_tree::Tree;
 use std::alloc::Global;
@@ -132,22 +133,21 @@ static LISTED: [(Asked, Option<Code>); 104] = [
 pub(crate) fn make_listed<R: Wait + Abort>(
     rt: &R,
     alloc: Global,
-    shared: &FileShared,
+    table: &TreeTable,
     core: &mut FileCore,
     tree: &mut Tree,
     listed: &[(Asked, Option<Code>)],
 )
-    requires table { IsCallTable shared.now FIRST SHARE (FIRST + SHARE) }
-    requires core { IsBetweenCalls shared.now core.old }
+    requires core { IsBetweenCalls table.now core.old }
     requires sound { IsSound tree.old }
     requires known { 0 < length tree.old.made }
     ensures same { IsSameCore core.old core.new }
-    ensures between { IsBetweenCalls shared.now core.new }
+    ensures between { IsBetweenCalls table.now core.new }
     ensures sound { IsSound tree.new }
     ensures known { 0 < length tree.new.made }
 {
     for (asked, code) in listed {
-        let reply = agrees(rt, alloc, shared, core, tree, *asked);
+        let reply = agrees(rt, alloc, table, core, tree, *asked);
         holds(rt, is_code(&reply, *code));
     }
 }
@@ -162,9 +162,9 @@ fn listed_history<R: Wait + Abort>(
     requires tree { BeginsTable tree.now FIRST SHARE 1 }
 {
     let mut plain = got(rt, tree.copy());
-    let (shared, mut cores) = got(rt, begun(alloc, tree, FIRST, SHARE, 1));
-    make_listed(rt, alloc, &shared, &mut cores[0], &mut plain, listed);
-    let (history, _) = shared.close(cores);
+    let (table, mut cores) = got(rt, begun(alloc, tree, FIRST, SHARE, 1));
+    make_listed(rt, alloc, &table, &mut cores[0], &mut plain, listed);
+    let (history, _) = table.into_shared().close(cores);
     history
 }
 

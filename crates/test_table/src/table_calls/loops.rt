@@ -2,7 +2,6 @@
 ghost use Rattle.std.specs.Prelude.{◌≡◌, length};
 ghost use Rattle.tree_laws.specs.Sound.{IsSound};
 ghost use Rattle.stamp_table.specs.Table.{IsBetweenCalls, IsSameCore};
-ghost use Rattle.begun_tables.specs.Begun.{IsCallTable};
 
 use crate::helpers::{got, holds};
 use crate::table_calls::ask;
@@ -11,7 +10,8 @@ use crate::table_calls::begun::{FIRST, SHARE, begun_tree};
 use crate::table_calls::beside::comes_to;
 use crate::table_calls::judged::{is_code, is_due};
 use crate::table_calls::tasks::{Task, shared_history};
-use mem_values::{FileCore, FileShared};
+use mem_calls::TreeTable;
+use mem_values::FileCore;
 use sfs_base::{CoreId, NoGate, NoMemory};
 use sfs_tree::Tree;
 use std::alloc::Global;
@@ -70,65 +70,59 @@ fn other(core: CoreId) -> CoreId {
 fn move_back<R: Wait>(
     rt: &R,
     alloc: Global,
-    shared: &FileShared,
+    table: &TreeTable,
     core: &mut FileCore,
-    nodes: u32,
     reply: Reply,
 ) -> bool
-    requires table { IsCallTable shared.now FIRST SHARE nodes }
-    requires core { IsBetweenCalls shared.now core.old }
+    requires core { IsBetweenCalls table.now core.old }
     ensures same { IsSameCore core.old core.new }
-    ensures between { IsBetweenCalls shared.now core.new }
+    ensures between { IsBetweenCalls table.now core.new }
 {
     if !is_code(&reply, None) {
         return true;
     }
     let back = way_back(core.number());
-    ask(rt, alloc, shared, core, nodes, back, &NoGate).is_some()
+    ask(rt, alloc, table, core, back, &NoGate).is_some()
 }
 
 // Moves a directory at the same time as the other core, and back once both are answered. Says whether all was made.
 fn move_once<R: Wait>(
     rt: &R,
     alloc: Global,
-    shared: &FileShared,
+    table: &TreeTable,
     core: &mut FileCore,
-    nodes: u32,
     pace: &Pace,
     round: u64,
 ) -> bool
-    requires table { IsCallTable shared.now FIRST SHARE nodes }
-    requires core { IsBetweenCalls shared.now core.old }
+    requires core { IsBetweenCalls table.now core.old }
     ensures same { IsSameCore core.old core.new }
-    ensures between { IsBetweenCalls shared.now core.new }
+    ensures between { IsBetweenCalls table.now core.new }
 {
     let before = round.saturating_mul(2);
     if !pace.meets(before.saturating_add(1)) {
         return false;
     }
     let asked = move_of(core.number());
-    let Some(reply) = ask(rt, alloc, shared, core, nodes, asked, &NoGate) else {
+    let Some(reply) = ask(rt, alloc, table, core, asked, &NoGate) else {
         return false;
     };
-    pace.meets(before.saturating_add(2)) && move_back(rt, alloc, shared, core, nodes, reply)
+    pace.meets(before.saturating_add(2)) && move_back(rt, alloc, table, core, reply)
 }
 
 // Does so in each round, or until a call is not made or the other core does not come.
 pub(crate) fn move_often<R: Wait>(
     rt: &R,
     alloc: Global,
-    shared: &FileShared,
+    table: &TreeTable,
     core: &mut FileCore,
-    nodes: u32,
     pace: &Pace,
 )
-    requires table { IsCallTable shared.now FIRST SHARE nodes }
-    requires core { IsBetweenCalls shared.now core.old }
+    requires core { IsBetweenCalls table.now core.old }
     ensures same { IsSameCore core.old core.new }
-    ensures between { IsBetweenCalls shared.now core.new }
+    ensures between { IsBetweenCalls table.now core.new }
 {
     for round in 0..ROUNDS {
-        if !move_once(rt, alloc, shared, core, nodes, pace, round) {
+        if !move_once(rt, alloc, table, core, pace, round) {
             return;
         }
     }

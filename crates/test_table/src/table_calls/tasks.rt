@@ -1,7 +1,7 @@
 // What cores do on a table side by side, each in a thread of its own.
 ghost use Rattle.std.specs.Prelude.{◌≡◌, ◌+◌, ◌*◌, ◌<◌, ◌≤◌, ℕ, All, length, slice_index_or};
 ghost use Rattle.stamp_table.specs.Table.{IsBetweenCalls, IsSameCore};
-ghost use Rattle.begun_tables.specs.Begun.{BeginsTable, IsCallTable};
+ghost use Rattle.begun_tables.specs.Begun.{BeginsTable};
 
 use crate::table_calls::ask;
 use crate::table_calls::begun::{FIRST, SHARE};
@@ -10,7 +10,8 @@ use crate::table_calls::crossing::cross_often;
 use crate::table_calls::drawn::Draw;
 use crate::table_calls::loops::{Pace, move_often};
 use begun_tables::begun;
-use mem_values::{FileCore, FileShared};
+use mem_calls::TreeTable;
+use mem_values::FileCore;
 use sfs_base::{NoGate, NoMemory};
 use sfs_tree::Tree;
 use std::alloc::Global;
@@ -33,22 +34,14 @@ pub(crate) enum Task<'a> {
 }
 
 // Makes so many calls that a core draws, or until one is refused memory.
-fn draw_often<R: Wait>(
-    rt: &R,
-    alloc: Global,
-    shared: &FileShared,
-    core: &mut FileCore,
-    nodes: u32,
-    count: u32,
-)
-    requires table { IsCallTable shared.now FIRST SHARE nodes }
-    requires core { IsBetweenCalls shared.now core.old }
+fn draw_often<R: Wait>(rt: &R, alloc: Global, table: &TreeTable, core: &mut FileCore, count: u32)
+    requires core { IsBetweenCalls table.now core.old }
     ensures same { IsSameCore core.old core.new }
-    ensures between { IsBetweenCalls shared.now core.new }
+    ensures between { IsBetweenCalls table.now core.new }
 {
     let mut draw = Draw::of(core.number());
     for _ in 0..count {
-        let Some(reply) = ask(rt, alloc, shared, core, nodes, draw.asked(), &NoGate) else {
+        let Some(reply) = ask(rt, alloc, table, core, draw.asked(), &NoGate) else {
             return;
         };
         draw.note(&reply);
@@ -56,24 +49,16 @@ fn draw_often<R: Wait>(
 }
 
 // One core does what it has to.
-fn work<R: Wait>(
-    rt: &R,
-    alloc: Global,
-    shared: &FileShared,
-    core: &mut FileCore,
-    nodes: u32,
-    task: &Task,
-)
-    requires table { IsCallTable shared.now FIRST SHARE nodes }
-    requires core { IsBetweenCalls shared.now core.old }
+fn work<R: Wait>(rt: &R, alloc: Global, table: &TreeTable, core: &mut FileCore, task: &Task)
+    requires core { IsBetweenCalls table.now core.old }
     ensures same { IsSameCore core.old core.new }
-    ensures between { IsBetweenCalls shared.now core.new }
+    ensures between { IsBetweenCalls table.now core.new }
 {
     match task {
-        Task::Draws { count } => draw_often(rt, alloc, shared, core, nodes, *count),
-        Task::Moves { pace } => move_often(rt, alloc, shared, core, nodes, pace),
-        Task::Meets { gate } => call_as_due(rt, alloc, shared, core, nodes, gate),
-        Task::Crosses => cross_often(rt, alloc, shared, core, nodes),
+        Task::Draws { count } => draw_often(rt, alloc, table, core, *count),
+        Task::Moves { pace } => move_often(rt, alloc, table, core, pace),
+        Task::Meets { gate } => call_as_due(rt, alloc, table, core, gate),
+        Task::Crosses => cross_often(rt, alloc, table, core),
     }
 }
 
@@ -81,25 +66,23 @@ fn work<R: Wait>(
 fn work_all<R: Threads + Wait + Sync>(
     rt: &R,
     alloc: Global,
-    shared: &FileShared,
+    table: &TreeTable,
     cores: &mut [FileCore],
-    nodes: u32,
     task: &Task,
 )
-    requires table { IsCallTable shared.now FIRST SHARE nodes }
-    requires cores { All (IsBetweenCalls shared.now) cores.old }
+    requires cores { All (IsBetweenCalls table.now) cores.old }
     ensures count { length cores.new ≡ length cores.old }
     ensures same { (place : ℕ) (d : _) → place < length cores.old → IsSameCore (slice_index_or cores.old place d) (slice_index_or cores.new place d)
-        × IsBetweenCalls shared.now (slice_index_or cores.new place d) }
+        × IsBetweenCalls table.now (slice_index_or cores.new place d) }
 {
     thread::for_each_mut(
         rt,
         cores,
         8,
         &|_number, core: &mut FileCore|
-            requires { IsBetweenCalls shared.now core.now × IsCallTable shared.now FIRST SHARE nodes }
-            ensures { IsSameCore core.entry.now core.exit.now × IsBetweenCalls shared.entry.now core.exit.now }
-        { work(rt, alloc, shared, core, nodes, task) },
+            requires { IsBetweenCalls table.now core.now }
+            ensures { IsSameCore core.entry.now core.exit.now × IsBetweenCalls table.entry.now core.exit.now }
+        { work(rt, alloc, table, core, task) },
     );
 }
 
@@ -114,9 +97,8 @@ pub(crate) fn shared_history<R: Threads + Wait + Sync>(
     requires tree { BeginsTable tree.now FIRST SHARE cores }
     requires cores { (0 < cores) × (cores ≤ 8) }
 {
-    let nodes = FIRST + SHARE * cores as u32;
-    let (shared, mut hands) = begun(alloc, tree, FIRST, SHARE, cores)?;
-    work_all(rt, alloc, &shared, hands.as_mut_slice(), nodes, task);
-    let (history, _) = shared.close(hands);
+    let (table, mut hands) = begun(alloc, tree, FIRST, SHARE, cores)?;
+    work_all(rt, alloc, &table, hands.as_mut_slice(), task);
+    let (history, _) = table.into_shared().close(hands);
     Ok(history)
 }

@@ -11,13 +11,13 @@ use Rattle.bench_calls.proofs.runs.workers_of.Goals as goal
 pub loop-core-preserved : goal.loop-core-preserved
 loop-core-preserved c =
     let goes : c.loop-core.core-iterator.rest.items ≡ c.in-Some.core ∷ c.next.new.self.rest.items = grind (arith, common_steps) in
-    let all = subst (λ (l : List FileHand). All (IsBetweenCalls c.args.shared.now) l) goes c.loop-core.invariant.rest in
+    let all = subst (λ (l : List FileHand). All (IsBetweenCalls c.args.table.now) l) goes c.loop-core.invariant.rest in
     record {
-      rest = All-tail (IsBetweenCalls c.args.shared.now) c.in-Some.core c.next.new.self.rest.items all;
-      ready = put_has (IsReady c.args.shared.now) c.loop-core.workers.items c.push.new.self.items c.in_ok-begun_worker.field-0 (is_ok c.push.result)
+      rest = All-tail (IsBetweenCalls c.args.table.now) c.in-Some.core c.next.new.self.rest.items all;
+      ready = put_has (IsReady c.args.table.now) c.loop-core.workers.items c.push.new.self.items c.in_ok-begun_worker.field-0 (is_ok c.push.result)
           c.push.ensures.items c.loop-core.invariant.ready (record {
-            between = subst (IsBetweenCalls c.args.shared.now) (sym c.in_ok-begun_worker.ensures.core)
-                (All-head (IsBetweenCalls c.args.shared.now) c.in-Some.core c.next.new.self.rest.items all);
+            between = subst (IsBetweenCalls c.args.table.now) (sym c.in_ok-begun_worker.ensures.core)
+                (All-head (IsBetweenCalls c.args.table.now) c.in-Some.core c.next.new.self.rest.items all);
             readable = c.in_ok-begun_worker.ensures.calls;
           });
     }

@@ -5,6 +5,6 @@ use Rattle.bench_calls.proofs.runs.workers_of.Given as goal
 
 abbrev pub invariant-loop-core : goal.invariant-loop-core
 invariant-loop-core l = record {
-  rest : All (IsBetweenCalls l.shared) l.core-iterator.rest.items;
-  ready : All (IsReady l.shared) l.workers.items;
+  rest : All (IsBetweenCalls l.table) l.core-iterator.rest.items;
+  ready : All (IsReady l.table) l.workers.items;
 }

@@ -5,6 +5,6 @@ use Rattle.bench_calls.proofs.workers.call_made.Given as goal
 
 abbrev pub invariant-loop : goal.invariant-loop
 invariant-loop g l = record {
-  core : IsBetweenCalls l.shared l.worker.core;
+  core : IsBetweenCalls l.table l.worker.core;
   readable : All IsReadable l.worker.calls.items;
 }

@@ -17,7 +17,7 @@ returns g c =
     let after = c.make_call.new.worker in
     let within : c.args.place < length before = (let past = c.if-workers-place.false in omega (arith, past)) in
     let rests =
-    subst (λ (z : FileState × TableState (BoxKey _)). Rests z.0 (AgreeAt z.0 z.1) after) (λ i. (site.shared i, site.set i)) called.rest
+    subst (λ (z : FileState × TableState (BoxKey _)). Rests z.0 (AgreeAt z.0 z.1) after) (λ i. (site.table i, site.set i)) called.rest
     in
     let same = subst (λ (w : Worker (PenHand _)). IsSameCore w.core after.core) (sym c.index-workers-place.is) called.same in
     record {

@@ -10,8 +10,8 @@ use Rattle.fsync_catch.proofs.catching.catch_nodes.Goals as goal
 
 pub hold_nodes-requires-clause-rise : goal.hold_nodes-requires-clause-rise
 hold_nodes-requires-clause-rise g c =
-    subst (λ (l : List NodeId). RiseAbove [] (map (flushed_place c.args.nodes) l)) (sym c.as_slice.ensures)
-    (places_rise c.args.nodes c.loop.held.items c.loop.invariant.ascend)
+    subst (λ (l : List NodeId). RiseAbove [] (map (flushed_place c.nodes-nodes.result) l)) (sym c.as_slice.ensures)
+    (places_rise c.nodes-nodes.result c.loop.held.items c.loop.invariant.ascend)
 
 pub look_once-requires-clause-waits : goal.look_once-requires-clause-waits
 look_once-requires-clause-waits g c =
@@ -35,6 +35,6 @@ loop-preserved g c =
           (saw_goes c.hold_nodes.new.core c.look_once.new.core c.look_once.ensures.saw)
           (works_goes c.look_once.new.core c.let_all_go.new.core c.let_all_go.ensures.on))));
       none = (c.let_all_go.ensures.none, c.let_all_go.ensures.idle);
-      within = subst (λ (l : List NodeId). All (IsBelow c.args.nodes) l) (sym nodes) look.within;
+      within = subst (λ (l : List NodeId). All (IsBelow c.nodes-nodes.result) l) (sym nodes) look.within;
       ascend = subst (λ (l : List NodeId). IsStrictlyIncreasing (map node_number l)) (sym nodes) look.concern_is.nodes.ascending;
     }

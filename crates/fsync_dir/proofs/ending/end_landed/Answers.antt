@@ -6,13 +6,14 @@ use Rattle.fsync_end.specs.declared.finishing.Ending.{Ending}
 use Rattle.fsync_values.specs.Renewing.{boxes_asked, values_renewed}
 use Rattle.fsync_dir.proofs.Ended.{EndPlace, LandsThere, count, enough, lands_so, may_end}
 use Rattle.fsync_dir.proofs.Told.{fact_of}
+use Rattle.mem_calls.specs.Table.{nodes_of}
 use Rattle.fsync_dir.proofs.ending.end_landed.Goals as goal
 
 pub renew-requires-clause-count : goal.renew-requires-clause-count
 renew-requires-clause-count g c =
     let e : EndPlace = record {
-      t = c.args.site.now.shared.now;
-      nodes = c.args.site.now.nodes;
+      t = c.args.site.now.table.now;
+      nodes = nodes_of c.args.site.now.table.now;
       fsync = c.args.fsync;
       left = c.args.left;
       landed = c.args.landed;
@@ -26,8 +27,8 @@ renew-requires-clause-count g c =
 pub renew-requires-clause-spares : goal.renew-requires-clause-spares
 renew-requires-clause-spares g c =
     let e : EndPlace = record {
-      t = c.args.site.now.shared.now;
-      nodes = c.args.site.now.nodes;
+      t = c.args.site.now.table.now;
+      nodes = nodes_of c.args.site.now.table.now;
       fsync = c.args.fsync;
       left = c.args.left;
       landed = c.args.landed;
@@ -42,8 +43,8 @@ renew-requires-clause-spares g c =
 pub finish-requires-clause-may : goal.finish-requires-clause-may
 finish-requires-clause-may g c =
     let e : EndPlace = record {
-      t = c.args.site.now.shared.now;
-      nodes = c.args.site.now.nodes;
+      t = c.args.site.now.table.now;
+      nodes = nodes_of c.args.site.now.table.now;
       fsync = c.args.fsync;
       left = c.args.left;
       landed = c.args.landed;
@@ -72,8 +73,8 @@ pub returns : goal.returns
 returns g c = record {
   lands = λ s has.
       let e : EndPlace = record {
-        t = c.args.site.now.shared.now;
-        nodes = c.args.site.now.nodes;
+        t = c.args.site.now.table.now;
+        nodes = nodes_of c.args.site.now.table.now;
         fsync = c.args.fsync;
         left = c.args.left;
         landed = c.args.landed;
@@ -97,6 +98,6 @@ returns g c = record {
       (c.as_slice-2.ensures i) c.args.left.values.items)
       in
       lands_so e there ending refl refl refl refl refl values c.finish.new.core refl c.finish.ensures.between
-      (subst (λ (cores : ℕ). Finishes (given_by c.args.site.now.shared.now) cores (fact_of ending) ending c.args.core.now c.finish.new.core) c.requires.cores
+      (subst (λ (cores : ℕ). Finishes (given_by c.args.site.now.table.now) cores (fact_of ending) ending c.args.core.now c.finish.new.core) c.requires.cores
       (c.finish.ensures.finishes (fact_of ending) refl));
 }

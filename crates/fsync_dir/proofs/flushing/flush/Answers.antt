@@ -9,11 +9,12 @@ use Rattle.fsync_dir.specs.Flush.{IsServed, live}
 use Rattle.fsync_dir.proofs.Coming.{no_turn_yet, untold_serves}
 use Rattle.fsync_dir.proofs.Served.{agrees_then, answers_dead, answers_stamped, call_agrees, ends_answered, no_turn_agrees}
 use Rattle.fsync_dir.proofs.Waiting.{waits_stamped}
+use Rattle.mem_calls.specs.Table.{nodes_of}
 use Rattle.fsync_dir.proofs.flushing.flush.Goals as goal
 
 pub returns-in_default-clause-answers : goal.returns-in_default-clause-answers
 returns-in_default-clause-answers g c =
-    answers_dead c.args.site.now.shared.now c.args.node c.args.core.now c.stamp_with_copy-stamped.new.core c.in_default.ensures
+    answers_dead c.args.site.now.table.now c.args.node c.args.core.now c.stamp_with_copy-stamped.new.core c.in_default.ensures
 
 pub returns-in_default-clause-agree : goal.returns-in_default-clause-agree
 returns-in_default-clause-agree g c =
@@ -28,20 +29,20 @@ serve-requires-clause-agree g c κs within =
 
 pub serve-requires-clause-waits : goal.serve-requires-clause-waits
 serve-requires-clause-waits g c κs within =
-    waits_stamped c.args.site.now.shared.now c.args.site.now.nodes c.args.node c.in-Some.stamped c.args.core.now c.stamp_with_copy-stamped.new.core
+    waits_stamped c.args.site.now.table.now (nodes_of c.args.site.now.table.now) c.args.node c.in-Some.stamped c.args.core.now c.stamp_with_copy-stamped.new.core
     c.in-Some.ensures c.requires.site.table c.in-Ok.own c.in-Ok.ensures
 
 pub returns-in-Ok-clause-answers : goal.returns-in-Ok-clause-answers
 returns-in-Ok-clause-answers g c =
-    let at = attempt_at c.args.site.now.shared.now c.args.site.now.nodes c.in-Ok.own c.stamp_with_copy-stamped.new.core c.args.pen.now in
+    let at = attempt_at c.args.site.now.table.now (nodes_of c.args.site.now.table.now) c.in-Ok.own c.stamp_with_copy-stamped.new.core c.args.pen.now in
     let ends = ends_answered at c.serve.new.core c.serve.new.pen c.serve.result c.serve.ensures.comes.comes in
-    answers_stamped c.args.site.now.shared.now c.args.node c.in-Some.stamped c.in-Ok.own.fsync c.serve.result ends.0 c.args.core.now
+    answers_stamped c.args.site.now.table.now c.args.node c.in-Some.stamped c.in-Ok.own.fsync c.serve.result ends.0 c.args.core.now
     c.stamp_with_copy-stamped.new.core c.serve.new.core c.in-Some.ensures ends.1
 
 pub returns-in-Ok-clause-agree : goal.returns-in-Ok-clause-agree
 returns-in-Ok-clause-agree g c =
     let stamps = c.in-Some.ensures in
-    agrees_then (attempt_at c.args.site.now.shared.now c.args.site.now.nodes c.in-Ok.own c.stamp_with_copy-stamped.new.core c.args.pen.now)
+    agrees_then (attempt_at c.args.site.now.table.now (nodes_of c.args.site.now.table.now) c.in-Ok.own c.stamp_with_copy-stamped.new.core c.args.pen.now)
     c.serve.new.core c.serve.new.pen c.serve.ensures.goes
     (call_agrees c.args.core.now c.stamp_with_copy-stamped.new.core stamps.stamps.entry c.args.pen.now stamps.stamps.waits.same.number stamps.stamps.mine
     c.requires.agree)
@@ -54,8 +55,8 @@ returns-in-Ok-clause-comes g c = live (record {
   stamps = c.in-Some.ensures;
   file = c.in-Ok.own.file;
   served = subst (λ (fsync : WaitingFsync). IsServed (record {
-    t = c.args.site.now.shared.now;
-    nodes = c.args.site.now.nodes;
+    t = c.args.site.now.table.now;
+    nodes = nodes_of c.args.site.now.table.now;
     fsync = fsync;
     file = c.in-Ok.own.file;
     hand = c.stamp_with_copy-stamped.new.core;
@@ -65,9 +66,9 @@ returns-in-Ok-clause-comes g c = live (record {
 
 pub returns-in-Err-clause-answers : goal.returns-in-Err-clause-answers
 returns-in-Err-clause-answers g c =
-    subst (λ (given : Reply). AnswersFsync c.args.site.now.shared.now c.args.node given c.args.core.now c.answer_wanting.new.core)
+    subst (λ (given : Reply). AnswersFsync c.args.site.now.table.now c.args.node given c.args.core.now c.answer_wanting.new.core)
     (sym c.answer_wanting.ensures.reply)
-    (answers_stamped c.args.site.now.shared.now c.args.node c.in-Some.stamped c.in-Err.fsync reply.NoMemory None c.args.core.now
+    (answers_stamped c.args.site.now.table.now c.args.node c.in-Some.stamped c.in-Err.fsync reply.NoMemory None c.args.core.now
     c.stamp_with_copy-stamped.new.core c.answer_wanting.new.core c.in-Some.ensures
     c.answer_wanting.ensures.ends.ends)
 
@@ -87,13 +88,13 @@ returns-in-Err-clause-comes g c = live (record {
   stamps = c.in-Some.ensures;
   file = None;
   served = untold_serves (record {
-    t = c.args.site.now.shared.now;
-    nodes = c.args.site.now.nodes;
+    t = c.args.site.now.table.now;
+    nodes = nodes_of c.args.site.now.table.now;
     fsync = record { node = c.args.node; stamp = c.in-Some.stamped.stamp };
     file = None;
     hand = c.stamp_with_copy-stamped.new.core;
     pen = c.args.pen.now;
   }) c.answer_wanting.new.core c.answer_wanting.result c.answer_wanting.ensures.reply
-      (subst (λ (fsync : WaitingFsync). EndsUntold c.args.site.now.shared.now fsync reply.NoMemory c.stamp_with_copy-stamped.new.core
+      (subst (λ (fsync : WaitingFsync). EndsUntold c.args.site.now.table.now fsync reply.NoMemory c.stamp_with_copy-stamped.new.core
       c.answer_wanting.new.core) c.in-Err.ensures c.answer_wanting.ensures.ends);
 })

@@ -17,7 +17,7 @@ run_all-requires-clause-rest g c κs within =
     let seats = c.in_ok-seats.seats.items in
     let are : AreWorkers volume (map worker_at seats) = subst (AreWorkers volume) (sym c.in_ok-seats.ensures) c.in_ok-volume.ensures.workers in
     subst (λ (z : FileState × TableState (BoxKey g.row.D.Denot) × List (Seat g.row.D.Denot)). AllRest z.0 z.1 z.2)
-    (λ i. (sym site.shared i, sym site.set i, sym value i)) (all_rest volume seats are)
+    (λ i. (sym site.table i, sym site.set i, sym value i)) (all_rest volume seats are)
 
 pub unmount-disk-requires-clause-workers : goal.unmount-disk-requires-clause-workers
 unmount-disk-requires-clause-workers g c κs within =
@@ -28,9 +28,9 @@ unmount-disk-requires-clause-workers g c κs within =
     let seats = c.in_ok-seats.seats.items in
     let after = c.run_all.new.seats in
     let are : AreWorkers volume (map worker_at seats) = subst (AreWorkers volume) (sym c.in_ok-seats.ensures) c.in_ok-volume.ensures.workers in
-    let back : AllAreBack volume.shared volume.set seats after =
+    let back : AllAreBack volume.table volume.set seats after =
     subst (λ (z : FileState × TableState (BoxKey g.row.D.Denot) × List (Seat g.row.D.Denot)). AllAreBack z.0 z.1 z.2 after)
-    (λ i. (site.shared i, site.set i, value i)) ran.back
+    (λ i. (site.table i, site.set i, value i)) ran.back
     in
     let long : length after ≡ length seats = ran.count ∙ ap length value in
     let written : take c.in_ok-seats.seats.len (after ++ drop (length after) seats) ≡ after =

@@ -15,4 +15,4 @@ returns-clause-workers g c =
     let after = c.run_at.new.workers in
     run_again c.args.volume.now before c.requires.workers c.args.phase.now driven.each.0 after driven.count
     (subst (λ (z : FileState × TableState (BoxKey _)). WorksEach z.0 (AgreeAt z.0 z.1) c.args.phase.now driven.each.0 before after)
-    (λ i. (site.shared i, site.set i)) driven.each.1)
+    (λ i. (site.table i, site.set i)) driven.each.1)

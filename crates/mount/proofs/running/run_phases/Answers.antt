@@ -7,7 +7,7 @@ pub loop-phase-init : goal.loop-phase-init
 loop-phase-init g c = record {
   count = refl;
   workers = c.requires.workers;
-  made = no_phase_made c.args.volume.now.shared.first c.args.workers.now c.requires.none;
+  made = no_phase_made c.args.volume.now.table.first c.args.workers.now c.requires.none;
 }
 
 pub loop-phase-preserved : goal.loop-phase-preserved

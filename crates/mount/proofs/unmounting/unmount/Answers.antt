@@ -20,12 +20,12 @@ returns-clause-leaves g c =
     let parted = c.part-cores.ensures in
     let closed = c.close-history.ensures in
     record {
-      legal = closed.legal;
+      legal = rw c.into_shared.ensures at closed.legal;
       own = λ core worker there. closed.own core worker.core
           (subst (λ (l : List FileHand). slice_get l core ≡ Some worker.core) (sym parted.cores) (there_too c.args.workers.items core worker there));
       log = closed.log.0;
-      events = subst (λ (l : List FileHand). IsLogAtEnd (IsLawfulLog (given_by c.args.volume.shared)) c.args.volume.shared.first l c.close-history.result.0
-          closed.log.0) parted.cores closed.log.1;
+      events = subst (λ (l : List FileHand). IsLogAtEnd (IsLawfulLog (given_by c.args.volume.table)) c.args.volume.table.first l c.close-history.result.0
+          closed.log.0) parted.cores (rw c.into_shared.ensures at closed.log.1);
       labels = c.close-disk.ensures.leaves.0;
       leaves = subst (λ (l : List (PenHand g.row.D.Denot)). LeavesDisk g.D.Disk.view c.args.volume.set.table.given l c.close-disk.ensures.leaves.0
           c.close-disk.result.0 c.close-disk.result.1.items) parted.pens c.close-disk.ensures.leaves.1;

@@ -52,7 +52,7 @@ returns-clause-calls g c =
     let workers = ran.new.workers in
     let left = c.unmount-disk.result in
     let old = c.in-Ok.mounted.workers in
-    has_calls volume.shared.first left.1 workers c.args.phases.now ran.result.0
+    has_calls volume.table.first left.1 workers c.args.phases.now ran.result.0
     (of_workers g.D.Disk.view volume workers left.0 left.1 left.2.items c.in-Ok.ensures.volume ran.ensures.workers
     (subst (λ (w : List (Worker (PenHand _))). LeavesVolume g.D.Disk.view volume w left.0 left.1 left.2.items) (written_back old.len workers old.items
     (ran.ensures.count ∙ ap length c.deref_mut.ensures.value) (sym c.deref_mut.ensures.len ∙ ap length c.deref_mut.ensures.value))

@@ -5,11 +5,11 @@ use Rattle.test_fsync.proofs.looks.looks.Goals as goal
 
 pub let_go-requires-clause-home : goal.let_go-requires-clause-home
 let_go-requires-clause-home g c =
-    known_home (given_by c.args.shared.now) c.copy_logs-logs.new.core.view c.copy_logs-logs.new.core.held c.copy_logs-logs.ensures.work.knows
+    known_home (given_by c.args.table.now) c.copy_logs-logs.new.core.view c.copy_logs-logs.new.core.held c.copy_logs-logs.ensures.work.knows
 
 pub returns-in-Ok-clause-between : goal.returns-in-Ok-clause-between
 returns-in-Ok-clause-between g c =
-    (refused (given_by c.args.shared.now) c.args.shared.now c.copy_logs-logs.new.core c.let_go.new.self c.copy_logs-logs.ensures.work c.let_go.ensures.lets_go
+    (refused (given_by c.args.table.now) c.args.table.now c.copy_logs-logs.new.core c.let_go.new.self c.copy_logs-logs.ensures.work c.let_go.ensures.lets_go
     c.let_go.ensures.left
     c.let_go.ensures.places
     (ap (λ (h : FileHand). h.waiting) c.copy_logs-logs.ensures.saw.frame
@@ -17,7 +17,7 @@ returns-in-Ok-clause-between g c =
 
 pub returns-in-Err-clause-between : goal.returns-in-Err-clause-between
 returns-in-Err-clause-between g c =
-    (refused (given_by c.args.shared.now) c.args.shared.now c.copy_logs-logs.new.core c.let_go.new.self c.copy_logs-logs.ensures.work c.let_go.ensures.lets_go
+    (refused (given_by c.args.table.now) c.args.table.now c.copy_logs-logs.new.core c.let_go.new.self c.copy_logs-logs.ensures.work c.let_go.ensures.lets_go
     c.let_go.ensures.left
     c.let_go.ensures.places
     (ap (λ (h : FileHand). h.waiting) c.copy_logs-logs.ensures.saw.frame

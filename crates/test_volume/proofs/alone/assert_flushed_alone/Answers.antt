@@ -6,4 +6,4 @@ pub flushed_alone-is-requires-clause-agree : goal.flushed_alone-is-requires-clau
 flushed_alone-is-requires-clause-agree g c =
     let worker = c.assert_answered-3.new.worker in
     let agree = c.assert_answered-3.ensures.agree in
-    agreeing_cores_tell Memory c.args.site.now.shared.now worker.core worker.pen agree.fsyncs agree.agree
+    agreeing_cores_tell Memory c.args.site.now.table.now worker.core worker.pen agree.fsyncs agree.agree

@@ -7,6 +7,6 @@ use Rattle.test_workers.proofs.played.drive_all.Given as goal
 abbrev pub invariant-loop-phase : goal.invariant-loop-phase
 invariant-loop-phase g l = record {
   count : length l.workers ≡ length l.fn.workers;
-  rest : All (Rests l.shared agree_always) l.workers;
+  rest : All (Rests l.table agree_always) l.workers;
   same : AreSameCores l.fn.workers l.workers;
 }

@@ -19,18 +19,18 @@ fsync-requires-clause-agrees g c =
 pub returns-in-Rename-clause-made : goal.returns-in-Rename-clause-made
 returns-in-Rename-clause-made g c =
     let more = reserves c.args.core.now c.reserve.new.self c.reserve.ensures.same in
-    let come = has_come c.args.shared.now (call.Rename c.in-Rename.directory c.in-Rename.name c.in-Rename.to_directory c.in-Rename.to_name) c.args.core.now
+    let come = has_come c.args.table.now (call.Rename c.in-Rename.directory c.in-Rename.name c.in-Rename.to_directory c.in-Rename.to_name) c.args.core.now
     c.reserve.new.self c.rename.new.core c.rename.result
-    (record { more = more; between = more_between c.args.core.now c.reserve.new.self more c.args.shared.now c.requires.core; no_fsync = refl })
+    (record { more = more; between = more_between c.args.core.now c.reserve.new.self more c.args.table.now c.requires.core; no_fsync = refl })
     c.rename.ensures in
     subst (λ (asked : Call). AddsOrRefused asked c.args.core.now c.rename.new.core c.rename.result) (sym c.in-Rename.is) come.made
 
 pub returns-in-Rename-clause-agrees : goal.returns-in-Rename-clause-agrees
 returns-in-Rename-clause-agrees g c =
     let more = reserves c.args.core.now c.reserve.new.self c.reserve.ensures.same in
-    let come = has_come c.args.shared.now (call.Rename c.in-Rename.directory c.in-Rename.name c.in-Rename.to_directory c.in-Rename.to_name) c.args.core.now
+    let come = has_come c.args.table.now (call.Rename c.in-Rename.directory c.in-Rename.name c.in-Rename.to_directory c.in-Rename.to_name) c.args.core.now
     c.reserve.new.self c.rename.new.core c.rename.result
-    (record { more = more; between = more_between c.args.core.now c.reserve.new.self more c.args.shared.now c.requires.core; no_fsync = refl })
+    (record { more = more; between = more_between c.args.core.now c.reserve.new.self more c.args.table.now c.requires.core; no_fsync = refl })
     c.rename.ensures in
     g.met.F.Flush.others_keep c.args.flush.now c.reserve.new.self c.rename.new.core c.args.pen.now come.keeps
     (g.met.F.Flush.others_keep c.args.flush.now c.args.core.now c.reserve.new.self c.args.pen.now
@@ -40,10 +40,10 @@ pub returns-in_default : goal.returns-in_default
 returns-in_default g c =
     let more = reserves c.args.core.now c.reserve.new.self c.reserve.ensures.same in
     let plain : IsPlainCall c.args.asked = search rules in
-    let come = has_come c.args.shared.now c.args.asked c.args.core.now c.reserve.new.self c.call.new.core c.call.result
+    let come = has_come c.args.table.now c.args.asked c.args.core.now c.reserve.new.self c.call.new.core c.call.result
     (record {
       more = more;
-      between = more_between c.args.core.now c.reserve.new.self more c.args.shared.now c.requires.core;
+      between = more_between c.args.core.now c.reserve.new.self more c.args.table.now c.requires.core;
       no_fsync = plain_no_fsync c.args.asked plain;
     })
     c.call.ensures in

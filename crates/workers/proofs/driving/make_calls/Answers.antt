@@ -11,7 +11,7 @@ use Rattle.workers.proofs.driving.make_calls.Goals as goal
 pub loop-call-init : goal.loop-call-init
 loop-call-init g c =
     let number : c.from.result ≡ c.args.core.now.view.core = c.from.ensures ∙ c.number.ensures in
-    sets_out c.args.shared.now (g.F.Flush.agrees c.args.flush.now) (commands_of c.args.core.now.view.core c.args.phase.now) c.args.core.now c.args.pen.now
+    sets_out c.args.table.now (g.F.Flush.agrees c.args.flush.now) (commands_of c.args.core.now.view.core c.args.phase.now) c.args.core.now c.args.pen.now
     c.new-course.result c.requires.core c.requires.agrees
     (c.new-course.ensures ∙ ap (λ n. started (commands_of n c.args.phase.now)) number)
     (started_ready c.args.core.now.view.core c.args.phase.now c.requires.ready)
@@ -22,7 +22,7 @@ make_call-requires-clause-readable g c κs within =
 
 pub returns-in_err-reply : goal.returns-in_err-reply
 returns-in_err-reply g c =
-    let t = c.args.shared.now in
+    let t = c.args.table.now in
     let agrees = g.F.Flush.agrees c.args.flush.now in
     let commands = commands_of c.args.core.now.view.core c.args.phase.now in
     let next : call_of c.loop-call.course.walk ≡ Some c.in-Some.call = sym c.in_ok-call.ensures ∙ c.in-Some.is in
@@ -39,7 +39,7 @@ loop-call-smaller-in_ok-reply g c =
 
 pub loop-call-preserved-in_ok-reply : goal.loop-call-preserved-in_ok-reply
 loop-call-preserved-in_ok-reply g c =
-    let t = c.args.shared.now in
+    let t = c.args.table.now in
     let agrees = g.F.Flush.agrees c.args.flush.now in
     let commands = commands_of c.args.core.now.view.core c.args.phase.now in
     let next : call_of c.loop-call.course.walk ≡ Some c.in-Some.call = sym c.in_ok-call.ensures ∙ c.in-Some.is in
@@ -56,7 +56,7 @@ loop-call-smaller-in_ok-reply-2 g c =
 
 pub loop-call-preserved-in_ok-reply-2 : goal.loop-call-preserved-in_ok-reply-2
 loop-call-preserved-in_ok-reply-2 g c =
-    let t = c.args.shared.now in
+    let t = c.args.table.now in
     let agrees = g.F.Flush.agrees c.args.flush.now in
     let commands = commands_of c.args.core.now.view.core c.args.phase.now in
     let next : call_of c.loop-call.course.walk ≡ Some c.in-Some.call = sym c.in_ok-call.ensures ∙ c.in-Some.is in
@@ -73,7 +73,7 @@ loop-call-smaller g c =
 
 pub loop-call-preserved : goal.loop-call-preserved
 loop-call-preserved g c =
-    let t = c.args.shared.now in
+    let t = c.args.table.now in
     let agrees = g.F.Flush.agrees c.args.flush.now in
     let commands = commands_of c.args.core.now.view.core c.args.phase.now in
     let next : call_of c.loop-call.course.walk ≡ Some c.in-Some.call = sym c.in_ok-call.ensures ∙ c.in-Some.is in

@@ -5,7 +5,7 @@ use Rattle.workers.proofs.driving.make_calls.Given as goal
 
 abbrev pub invariant-loop-call : goal.invariant-loop-call
 invariant-loop-call g l =
-    IsUnderWay l.shared (g.F.Flush.agrees l.flush) (commands_of l.fn.core.view.core l.phase) l.fn.core l.core l.pen l.course
+    IsUnderWay l.table (g.F.Flush.agrees l.flush) (commands_of l.fn.core.view.core l.phase) l.fn.core l.core l.pen l.course
 
 abbrev pub decreases-loop-call : goal.decreases-loop-call
 decreases-loop-call g l = calls_left l.course

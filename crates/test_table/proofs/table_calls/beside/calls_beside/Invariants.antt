@@ -4,5 +4,5 @@ use Rattle.test_table.proofs.table_calls.beside.calls_beside.Given as goal
 abbrev pub invariant-loop-asked : goal.invariant-loop-asked
 invariant-loop-asked g l = record {
   same : IsSameCore l.initial.core l.core;
-  between : IsBetweenCalls l.shared l.core;
+  between : IsBetweenCalls l.table l.core;
 }

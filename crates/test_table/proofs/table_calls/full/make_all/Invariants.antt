@@ -5,7 +5,7 @@ use Rattle.test_table.proofs.table_calls.full.make_all.Given as goal
 
 abbrev pub invariant-loop : goal.invariant-loop
 invariant-loop g l = record {
-  between : IsBetweenCalls l.shared l.core;
+  between : IsBetweenCalls l.table l.core;
   sound : IsSound l.tree;
   known : 0 < length l.tree.made;
 }

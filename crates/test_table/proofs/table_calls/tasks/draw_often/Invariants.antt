@@ -4,5 +4,5 @@ use Rattle.test_table.proofs.table_calls.tasks.draw_often.Given as goal
 abbrev pub invariant-loop : goal.invariant-loop
 invariant-loop g l = record {
   same : IsSameCore l.initial.core l.core;
-  between : IsBetweenCalls l.shared l.core;
+  between : IsBetweenCalls l.table l.core;
 }
