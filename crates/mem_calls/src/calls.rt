@@ -32,9 +32,7 @@ pub fn call<R: Wait, G: Gate>(
 {
     match call {
         Call::Look { dir, name } => Ok(look(rt, alloc, table, core, dir, name, gate)),
-        Call::Read { file, at, count } => {
-            read(rt, alloc, table, core, file, at, count, gate)
-        }
+        Call::Read { file, at, count } => { read(rt, alloc, table, core, file, at, count, gate) }
         Call::Stat { node } => Ok(stat(rt, alloc, table, core, node, gate)),
         Call::List { dir } => list(rt, alloc, table, core, dir, gate),
         call => change(rt, alloc, table, core, call, gate),
@@ -57,19 +55,11 @@ fn change<R: Wait, G: Gate>(
     ensures { ComesTo table.now call core.old core.new result }
 {
     match call {
-        Call::Make { dir, name, kind } => {
-            make(
-                rt, alloc, table, core, dir, name, kind, gate,
-            )
-        }
-        Call::Link { file, dir, name } => {
-            link(rt, alloc, table, core, file, dir, name, gate)
-        }
+        Call::Make { dir, name, kind } => { make(rt, alloc, table, core, dir, name, kind, gate) }
+        Call::Link { file, dir, name } => { link(rt, alloc, table, core, file, dir, name, gate) }
         Call::Unlink { dir, name } => unlink(rt, alloc, table, core, dir, name, gate),
         Call::Rmdir { dir, name } => rmdir(rt, alloc, table, core, dir, name, gate),
-        Call::Write { file, at, bytes } => {
-            write(rt, alloc, table, core, file, at, bytes, gate)
-        }
+        Call::Write { file, at, bytes } => { write(rt, alloc, table, core, file, at, bytes, gate) }
         Call::Trunc { file, size } => trunc(rt, alloc, table, core, file, size, gate),
         _ => unreachable!(),
     }

@@ -131,13 +131,7 @@ pub(crate) fn put_part(core: &mut FileCore, nodes: u32, part: Box<PartCell>)
 }
 
 /// Puts a bucket into its cell.
-pub fn put_bucket(
-    core: &mut FileCore,
-    nodes: u32,
-    node: NodeId,
-    number: u8,
-    bucket: Box<Bucket>,
-)
+pub fn put_bucket(core: &mut FileCore, nodes: u32, node: NodeId, number: u8, bucket: Box<Bucket>)
     requires { IsSome (value_held nodes core.old.held (id.Bucket node number)) }
     ensures { PutsValue nodes (id.Bucket node number) (cell.Bucket bucket) core.old core.new }
 {
