@@ -33,8 +33,8 @@ pub struct Mounted<D: Disk> {
 }
 
 impl<D: Disk> Volume<D> {
-    /// The table of its tree.
-    pub fn table(&self) -> &TreeTable
+    /// The table of its tree, which its workers share.
+    pub fn shared(&self) -> &TreeTable
         ensures { result.now ≡ self.now.table }
     {
         &self.table
