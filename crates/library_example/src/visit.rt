@@ -17,7 +17,6 @@ use std::alloc::Global;
 use std::sync::Wait;
 use std::thread::{self, Threads};
 use tree_laws::{History, Turns};
-use workers::Basis;
 
 // How many threads there are at most: one for each core that a disk may have.
 const MOST_THREADS: usize = 16;
