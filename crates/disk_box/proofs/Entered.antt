@@ -286,7 +286,8 @@ module _ {D : Type 0} (view : D → View) (t : TableState (BoxKey D)) (before ho
         in
         record {
           front = front;
-          others = none_before before.view.core before.view.seen front before.view.mine after.view.mine after.view.seen label.Took (sym outside.mine) (holds_now.mine
+          others = none_before before.view.core before.view.seen front before.view.mine after.view.mine after.view.seen label.Took (sym outside.mine)
+              (holds_now.mine
               ∙ ap (λ c. entries_by event_core c after.view.seen) core_after) mine_now seen;
           seen_is = seen;
         }

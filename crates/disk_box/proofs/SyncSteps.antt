@@ -214,7 +214,8 @@ module _ {D : Type 0} (view : D → View) (t : TableState (BoxKey D)) (before : 
   pub sync_failed : (faults : ℕ) → Syncs false (view was.disk) (view disk) → AnswersCall {V = Unit {0}} (view was.disk) (view disk) (Err faults)
       → Steps view t {V = Unit {0}} before before failed (Err faults)
   sync_failed faults syncs answers =
-      let same = called_beside {V = Unit {0}} view was failed (Err faults) (at.fits.frame.laws was.disk) (called_sync was.slots (Err faults) false refl syncs answers) in
+      let same = called_beside {V = Unit {0}} view was failed (Err faults) (at.fits.frame.laws was.disk) (called_sync was.slots (Err faults) false refl
+      syncs answers) in
       let still = goes_still before in
       let before_is : (view was.disk).faults ≡ key.faults = subst (λ (f : Option ℕ). FaultsFit key.faults f (view was.disk).faults) at.calm at.fits.faults in
       record {
@@ -237,7 +238,8 @@ module _ {D : Type 0} (view : D → View) (t : TableState (BoxKey D)) (before : 
       }
 
   -- one that answered Ok, and was told
-  module _ (slots : Vec Slot Global) (sealed : AreSealed was.slots.items slots.items) (after : PenHand D) (now : ℕ) (holds : HoldsBox t after) (tells : TellsLabel (label.Synced now) before after)
+  module _ (slots : Vec Slot Global) (sealed : AreSealed was.slots.items slots.items) (after : PenHand D) (now : ℕ) (holds : HoldsBox t after) (tells :
+      TellsLabel (label.Synced now) before after)
       (is : now ≡ (view disk).now) (syncs : Syncs true (view was.disk) (view disk))
       (answers : AnswersCall {V = Unit {0}} (view was.disk) (view disk) (Ok tt)) where
     abbrev mid : Desk D
@@ -245,7 +247,8 @@ module _ {D : Type 0} (view : D → View) (t : TableState (BoxKey D)) (before : 
 
     synced_steps : Steps view t {V = Unit {0}} before after mid (Ok tt)
     synced_steps = steps_so view t before after (label.Synced now) was mid (Ok tt) tt refl at holds tells
-        (framed_of_slots view t before after (label.Synced now) was mid (Ok tt) at holds tells tt at.calm (is, syncs) (called_sync slots (Ok tt) true sealed.count syncs answers))
+        (framed_of_slots view t before after (label.Synced now) was mid (Ok tt) at holds tells tt at.calm (is, syncs) (called_sync slots (Ok tt) true
+        sealed.count syncs answers))
         (synced_fit key.layout past.slots was.slots.items slots.items (at.fits.slots at.calm) sealed)
 
     pub synced_now : IsServing view t after mid 0

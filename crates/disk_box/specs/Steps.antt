@@ -18,7 +18,8 @@ use Rattle.disk_box.specs.Kind.{HasKind}
 use Rattle.disk_box.specs.Pens.{PenHand, PenGoes, TellsSteps, WorksAtDesk, IsBroken, calls_at, past_at}
 
 module _ {D : Type 0} (view : D → View) (t : TableState (BoxKey D)) where
-  -- A pen with the box has made a step of one device call at most, and told of it: it is at work still; or a device call of its failed, of which it has yet to tell.
+  -- A pen with the box has made a step of one device call at most, and told of it: it is at work still; or a device call of its failed, of which it has yet
+  -- to tell.
   pub record Steps {V : Type 0} (before after : PenHand D) (desk : Desk D) (result : Result V ℕ) : Type 0 where
     pub goes : PenGoes before after
     pub room : after.room ≡ before.room

@@ -245,7 +245,8 @@ fn hold_file<R: Wait, D: Disk + Drop>(
     requires waits { WaitsToFlush site.now.table.now (nodes_of site.now.table.now) own.now.fsync own.now.file core.old }
     ensures work { IsWorking (given_by site.now.table.now) site.now.table.now core.new }
     ensures on { GoesOn core.old core.new }
-    ensures alone { IfOk result (λ cut. MatchOption cut (LetsAllGo core.new) (HoldsFileAlone site.now.table.now (nodes_of site.now.table.now) own.now core.new)) }
+    ensures alone { IfOk result (λ cut. MatchOption cut (LetsAllGo core.new) (HoldsFileAlone site.now.table.now (nodes_of site.now.table.now) own.now
+        core.new)) }
     ensures none { OnErr result (LetsAllGo core.new) }
 {
     match own.file.as_ref() {

@@ -30,7 +30,8 @@ same_mine t before after first second goes none =
     ∙ (ap (λ c. entries_by event_core c after.view.seen) (core_kept before after goes)
     ∙ (ap (entries_by event_core before.view.core) (sym goes.seen.1)
     ∙ (filter-append (is_by event_core before.view.core) before.view.seen goes.seen.0
-    ∙ (ap (λ l. entries_by event_core before.view.core before.view.seen ++ l) none ∙ (append-nil (entries_by event_core before.view.core before.view.seen) ∙ sym first.mine)))))
+    ∙ (ap (λ l. entries_by event_core before.view.core before.view.seen ++ l) none ∙ (append-nil (entries_by event_core before.view.core before.view.seen) ∙
+    sym first.mine)))))
 
 -- a list is empty or not
 empty_or : (xs : List (Event Label)) → (xs ≡ []) ⊎ (xs ≡ [] → ⊥)

@@ -176,7 +176,8 @@ module _ {D : Type 0} (before at done after : PenHand D) (around : IsAround befo
   leaves_around k progress.Filled leaves = tt
   leaves_around k (progress.Durable ack) leaves = due_out_same k ∙ leaves
 
-  brings_around : (was now : Flight) (did : Progress) → BringsOn was now (calls_at at) (calls_at done) did → BringsOn was now (calls_at before) (calls_at after) did
+  brings_around : (was now : Flight) (did : Progress) → BringsOn was now (calls_at at) (calls_at done) did → BringsOn was now (calls_at before) (calls_at
+      after) did
   brings_around was now did = subst (λ (z : ℕ × ℕ). BringsOn was now z.0 z.1 did) (λ i. (around.calls_in i, sym around.calls_out i))
 
   pub works_around : (was now : Flight) (result : Result Progress CommitFault) → WorksOnce was now at done result → WorksInTurn was now before after result

@@ -26,7 +26,8 @@ pub record HasRoomForWorkers {D : Type 0} (cores : ℕ) (room : Room D) : Type 0
   pub for_cores : cores ≤ vec_capacity room.cores
   pub for_pens : cores ≤ vec_capacity room.pens
 
--- A volume: its table began with no file longer than a file may be; fsyncs may be served over it, and its nodes have numbers of 32 bits; table and journals have as many cores as it has, of which there are some; and there is room for them.
+-- A volume: its table began with no file longer than a file may be; fsyncs may be served over it, and its nodes have numbers of 32 bits; table and journals
+-- have as many cores as it has, of which there are some; and there is room for them.
 pub record IsVolume {D : Type 0} (volume : Volume D) : Type 0 where
   pub short : HasNoLongFile volume.table.first
   pub site : IsSite volume.table (nodes_of volume.table) volume.cores volume.set.table.given

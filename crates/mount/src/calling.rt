@@ -37,8 +37,10 @@ pub fn make_call<R: Wait, D: Disk + Drop, G: Gate>(
     ensures same { IsSameCore worker.old.core worker.new.core }
 {
     let serve_one = |core: &mut FileCore, pen: &mut Pen<D>, node: NodeId| -> Reply
-        requires { ServesAt site.now.table.now site.now.set.now site.now.cores × MayServe site.now.table.now (AgreeAt site.now.table.now site.now.set.now) core.now pen.now }
-        ensures { HasServed site.entry.now.table.now (AgreeAt site.entry.now.table.now site.entry.now.set.now) node result core.entry.now core.exit.now pen.exit.now }
+        requires { ServesAt site.now.table.now site.now.set.now site.now.cores × MayServe site.now.table.now (AgreeAt site.now.table.now site.now.set.now)
+            core.now pen.now }
+        ensures { HasServed site.entry.now.table.now (AgreeAt site.entry.now.table.now site.entry.now.set.now) node result core.entry.now core.exit.now
+            pen.exit.now }
     { serve(rt, alloc, site, core, pen, node, gate) };
     let by: FlushBy<FlushSite<D>, Pen<D>, PairAgreement<D>, _> = FlushBy {
         files: site.table,

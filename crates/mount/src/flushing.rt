@@ -67,8 +67,10 @@ fn run_at<R: Threads + Wait + Sync, D: Disk + Drop + Sync, G: Gate>(
     ensures refused { is_err result ≡ any_refused workers.new }
 {
     let serve_one = |core: &mut FileCore, pen: &mut Pen<D>, node: NodeId| -> Reply
-        requires { ServesAt site.now.table.now site.now.set.now site.now.cores × MayServe site.now.table.now (AgreeAt site.now.table.now site.now.set.now) core.now pen.now }
-        ensures { HasServed site.entry.now.table.now (AgreeAt site.entry.now.table.now site.entry.now.set.now) node result core.entry.now core.exit.now pen.exit.now }
+        requires { ServesAt site.now.table.now site.now.set.now site.now.cores × MayServe site.now.table.now (AgreeAt site.now.table.now site.now.set.now)
+            core.now pen.now }
+        ensures { HasServed site.entry.now.table.now (AgreeAt site.entry.now.table.now site.entry.now.set.now) node result core.entry.now core.exit.now
+            pen.exit.now }
     { serve(rt, alloc, site, core, pen, node, gate) };
     let by: FlushBy<FlushSite<D>, Pen<D>, PairAgreement<D>, _> = FlushBy {
         files: site.table,

@@ -126,7 +126,8 @@ pub fn drive<R: Threads + Wait + Sync, F: Flush + Sync, G: Gate>(
         MOST_THREADS,
         &|_number, worker: &mut Worker<F::Pen>|
             requires { (F.table flush.now ≡ table.now) × Rests table.now (F.agrees flush.now) worker.now × (worker.now.until ≤ from) × LinesMayRun phase.now }
-            ensures { Works table.entry.now (F.agrees flush.entry.now) (commands_of worker.entry.now.core.view.core phase.entry.now) from worker.entry.now worker.exit.now }
+            ensures { Works table.entry.now (F.agrees flush.entry.now) (commands_of worker.entry.now.core.view.core phase.entry.now) from worker.entry.now
+                worker.exit.now }
         { work(rt, alloc, table, worker, phase, from, flush, gate) },
     );
     none_refused(workers)

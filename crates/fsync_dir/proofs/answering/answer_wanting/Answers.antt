@@ -10,6 +10,7 @@ answer-requires-clause-waits c =
 pub returns-clause-ends : goal.returns-clause-ends
 returns-clause-ends c =
     ends_untold c.args.table.now c.args.fsync _ c.args.core.now c.let_all_go.new.core c.answer.new.self
-    (lets_go c.args.table.now c.args.core.now c.let_all_go.new.core (rw c.shared.ensures at c.let_all_go.ensures.work) c.let_all_go.ensures.on c.let_all_go.ensures.none
+    (lets_go c.args.table.now c.args.core.now c.let_all_go.new.core (rw c.shared.ensures at c.let_all_go.ensures.work) c.let_all_go.ensures.on
+    c.let_all_go.ensures.none
     c.let_all_go.ensures.idle)
     c.answer.ensures

@@ -20,7 +20,8 @@ commit_alone-requires-clause-alone g c κs within =
     let on = c.hold_file.ensures.on in
     let t = c.args.site.now.table.now in
     let has : HoldsFileAlone t (nodes_of c.args.site.now.table.now) c.args.own.now c.hold_file.new.core c.in-Ok-Some.cut =
-    subst (λ (o : Option Stamp). MatchOption o (LetsAllGo c.hold_file.new.core) (HoldsFileAlone t (nodes_of c.args.site.now.table.now) c.args.own.now c.hold_file.new.core))
+    subst (λ (o : Option Stamp). MatchOption o (LetsAllGo c.hold_file.new.core) (HoldsFileAlone t (nodes_of c.args.site.now.table.now) c.args.own.now
+    c.hold_file.new.core))
     c.in-Ok-Some.field-0-is c.in-Ok-Some.ensures.alone in
     record {
       holds = record {
@@ -47,7 +48,8 @@ pub attempt_by_look-requires-clause-waits : goal.attempt_by_look-requires-clause
 attempt_by_look-requires-clause-waits g c κs within =
     let t = c.args.site.now.table.now in
     let none : LetsAllGo c.hold_file.new.core =
-    subst (λ (o : Option Stamp). MatchOption o (LetsAllGo c.hold_file.new.core) (HoldsFileAlone t (nodes_of c.args.site.now.table.now) c.args.own.now c.hold_file.new.core))
+    subst (λ (o : Option Stamp). MatchOption o (LetsAllGo c.hold_file.new.core) (HoldsFileAlone t (nodes_of c.args.site.now.table.now) c.args.own.now
+    c.hold_file.new.core))
     c.in-Ok-None.field-0-is c.in-Ok-None.ensures.alone in
     waits_again t (nodes_of c.args.site.now.table.now) c.args.own.now.fsync c.args.own.now.file c.args.core.now c.hold_file.new.core
     (record { work = c.hold_file.ensures.work; on = c.hold_file.ensures.on; holds_none = none.holds_none; none_held = none.none_held }) c.requires.waits

@@ -23,16 +23,19 @@ pub commit_planned-requires-clause-drafted : goal.commit_planned-requires-clause
 commit_planned-requires-clause-drafted g c κs within = (
   planned_alone c.args.site.now.table.now (nodes_of c.args.site.now.table.now) c.args.own.now c.args.cut c.args.core.now c.requires.alone c.requires.site.table
       c.requires.site.disk c.in-Ok.todo c.planned_alone.new.core c.in-Ok.ensures.drafted c.in-Ok.ensures.directories c.in-Ok.ensures.hollow,
-  has_drafted_alone c.args.site.now.table.now (nodes_of c.args.site.now.table.now) c.args.own.now c.args.cut c.args.core.now c.requires.alone c.requires.site.table
+  has_drafted_alone c.args.site.now.table.now (nodes_of c.args.site.now.table.now) c.args.own.now c.args.cut c.args.core.now c.requires.alone
+      c.requires.site.table
       c.requires.site.disk c.in-Ok.todo c.planned_alone.new.core c.in-Ok.ensures.drafted c.in-Ok.ensures.directories c.in-Ok.ensures.hollow c.args.pen.now,
 )
 
 pub returns-in-Ok-clause-comes : goal.returns-in-Ok-clause-comes
 returns-in-Ok-clause-comes g c =
     c.commit_planned.ensures.comes
-    (planned_alone c.args.site.now.table.now (nodes_of c.args.site.now.table.now) c.args.own.now c.args.cut c.args.core.now c.requires.alone c.requires.site.table
+    (planned_alone c.args.site.now.table.now (nodes_of c.args.site.now.table.now) c.args.own.now c.args.cut c.args.core.now c.requires.alone
+    c.requires.site.table
     c.requires.site.disk c.in-Ok.todo c.planned_alone.new.core c.in-Ok.ensures.drafted c.in-Ok.ensures.directories c.in-Ok.ensures.hollow)
-    (has_drafted_alone c.args.site.now.table.now (nodes_of c.args.site.now.table.now) c.args.own.now c.args.cut c.args.core.now c.requires.alone c.requires.site.table
+    (has_drafted_alone c.args.site.now.table.now (nodes_of c.args.site.now.table.now) c.args.own.now c.args.cut c.args.core.now c.requires.alone
+    c.requires.site.table
     c.requires.site.disk c.in-Ok.todo c.planned_alone.new.core c.in-Ok.ensures.drafted c.in-Ok.ensures.directories c.in-Ok.ensures.hollow c.args.pen.now)
 
 pub answer_wanting-requires-clause-work : goal.answer_wanting-requires-clause-work

@@ -29,7 +29,8 @@ pub commit_planned-requires-clause-drafted : goal.commit_planned-requires-clause
 commit_planned-requires-clause-drafted g c κs within = (
   planned c.args.site.now.table.now (nodes_of c.args.site.now.table.now) c.args.own.now c.args.caught c.args.core.now c.requires.caught c.requires.site.table
       c.requires.site.disk c.in-Ok.todo c.planned.new.core c.in-Ok.ensures.drafted c.in-Ok.ensures.directories c.in-Ok.ensures.hollow,
-  has_drafted c.args.site.now.table.now (nodes_of c.args.site.now.table.now) c.args.own.now c.args.caught c.args.core.now c.requires.caught c.requires.site.table
+  has_drafted c.args.site.now.table.now (nodes_of c.args.site.now.table.now) c.args.own.now c.args.caught c.args.core.now c.requires.caught
+      c.requires.site.table
       c.requires.site.disk c.in-Ok.todo c.planned.new.core c.in-Ok.ensures.drafted c.in-Ok.ensures.directories c.in-Ok.ensures.hollow c.args.pen.now,
 )
 
@@ -38,7 +39,8 @@ returns-in-Ok-clause-comes g c =
     c.commit_planned.ensures.comes
     (planned c.args.site.now.table.now (nodes_of c.args.site.now.table.now) c.args.own.now c.args.caught c.args.core.now c.requires.caught c.requires.site.table
     c.requires.site.disk c.in-Ok.todo c.planned.new.core c.in-Ok.ensures.drafted c.in-Ok.ensures.directories c.in-Ok.ensures.hollow)
-    (has_drafted c.args.site.now.table.now (nodes_of c.args.site.now.table.now) c.args.own.now c.args.caught c.args.core.now c.requires.caught c.requires.site.table
+    (has_drafted c.args.site.now.table.now (nodes_of c.args.site.now.table.now) c.args.own.now c.args.caught c.args.core.now c.requires.caught
+    c.requires.site.table
     c.requires.site.disk c.in-Ok.todo c.planned.new.core c.in-Ok.ensures.drafted c.in-Ok.ensures.directories c.in-Ok.ensures.hollow c.args.pen.now)
 
 pub answer_wanting-requires-clause-work : goal.answer_wanting-requires-clause-work

@@ -29,7 +29,8 @@ serve-requires-clause-agree g c κs within =
 
 pub serve-requires-clause-waits : goal.serve-requires-clause-waits
 serve-requires-clause-waits g c κs within =
-    waits_stamped c.args.site.now.table.now (nodes_of c.args.site.now.table.now) c.args.node c.in-Some.stamped c.args.core.now c.stamp_with_copy-stamped.new.core
+    waits_stamped c.args.site.now.table.now (nodes_of c.args.site.now.table.now) c.args.node c.in-Some.stamped c.args.core.now
+    c.stamp_with_copy-stamped.new.core
     c.in-Some.ensures c.requires.site.table c.in-Ok.own c.in-Ok.ensures
 
 pub returns-in-Ok-clause-answers : goal.returns-in-Ok-clause-answers

@@ -27,7 +27,8 @@ loop-preserved g c =
       site = subst (λ (key : BoxKey _). IsSite c.args.site.now.table.now (nodes_of c.args.site.now.table.now) c.args.site.now.cores key)
           (sym (ap (λ h. h.table.given) c.attempt.ensures.goes.frame)) c.loop.invariant.site;
       ready = c.attempt.ensures.ready;
-      waits = waits_again c.args.site.now.table.now (nodes_of c.args.site.now.table.now) c.args.own.now.fsync c.args.own.now.file c.loop.core c.attempt.new.core anew.lets
+      waits = waits_again c.args.site.now.table.now (nodes_of c.args.site.now.table.now) c.args.own.now.fsync c.args.own.now.file c.loop.core
+          c.attempt.new.core anew.lets
           c.loop.invariant.waits;
       agree = no_turn_agrees c.loop.core c.attempt.new.core c.loop.pen c.attempt.new.pen (ap (λ v. v.core) on.view) (ap (λ v. v.mine) on.view) anew.no_turn
           c.loop.invariant.agree;

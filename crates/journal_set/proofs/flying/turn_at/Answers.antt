@@ -65,4 +65,5 @@ returns-then-is_some-clause-counts g c =
 pub returns-clause-counts : goal.returns-clause-counts
 returns-clause-counts g c =
     let flight = c.args.flight.now in
-    subst (λ (h : PenHand g.row.D.Denot). WorksOnce flight c.advance.new.flight h c.advance.new.pen c.advance.result) c.in_default.ensures.none.0 c.advance.ensures.counts
+    subst (λ (h : PenHand g.row.D.Denot). WorksOnce flight c.advance.new.flight h c.advance.new.pen c.advance.result) c.in_default.ensures.none.0
+    c.advance.ensures.counts

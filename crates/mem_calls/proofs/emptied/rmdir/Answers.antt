@@ -9,10 +9,12 @@ rmdir_in-requires-clause-held g c = still_directory c.nodes-nodes.result c.hold_
 
 pub rmdir_in-requires-clause-child : goal.rmdir_in-requires-clause-child
 rmdir_in-requires-clause-child g c =
-    still_named c.nodes-nodes.result c.args.dir c.args.name c.hold_ending.new.core c.hold_part.new.core c.hold_part.ensures.still c.hold_ending.ensures.held.directory
+    still_named c.nodes-nodes.result c.args.dir c.args.name c.hold_ending.new.core c.hold_part.new.core c.hold_part.ensures.still
+    c.hold_ending.ensures.held.directory
     c.hold_ending.ensures.held.child
 
 pub finish_rmdir-requires-clause-held : goal.finish_rmdir-requires-clause-held
 finish_rmdir-requires-clause-held g c =
-    still_named c.nodes-nodes.result c.args.dir c.args.name c.hold_ending.new.core c.hold_part.new.core c.hold_part.ensures.still c.hold_ending.ensures.held.directory
+    still_named c.nodes-nodes.result c.args.dir c.args.name c.hold_ending.new.core c.hold_part.new.core c.hold_part.ensures.still
+    c.hold_ending.ensures.held.directory
     c.hold_ending.ensures.held.child c.in-Ok.child c.in-Ok.ensures.names

@@ -27,7 +27,8 @@ returns-clause-puts c = put_or_same c.args.nodes c.args.move_.now.to_directory _
     (with_row c.args.shift.child_is_directory c.args.move_.now.to_name c.args.shift.child.0) c.args.core.now c.put_bucket.new.core c.with_row-bucket.result.1
     c.take_bucket-taken.result.value c.with_row-bucket.result.0.value
     c.with_row-bucket.ensures.ok c.with_row-bucket.ensures.err
-    (λ change is. subst (λ (n : ℕ). PutsBucket c.args.nodes c.args.move_.now.to_directory n change c.args.core.now c.put_bucket.new.core) c.bucket_of-number.ensures
+    (λ change is. subst (λ (n : ℕ). PutsBucket c.args.nodes c.args.move_.now.to_directory n change c.args.core.now c.put_bucket.new.core)
+    c.bucket_of-number.ensures
     (puts_bucket c.args.nodes c.args.core.now c.take_bucket-taken.new.core c.put_bucket.new.core c.args.move_.now.to_directory c.bucket_of-number.result change
     c.take_bucket-taken.ensures.held.0
     (cell.Bucket c.with_row-bucket.result.0) c.take_bucket-taken.result.value

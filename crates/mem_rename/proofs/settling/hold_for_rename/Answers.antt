@@ -17,7 +17,8 @@ hold_round-requires-clause-room g c = let r = c.loop.invariant.again.room in let
 pub returns-then-is : goal.returns-then-is
 returns-then-is g c =
     settled (given_by c.args.shared.now) c.args.shared.now c.args.nodes c.requires.table c.args.move_.now
-    (record { plan = c.loop.plan; look = c.next_plan.result.0; above = c.in-Some-2.above }) c.next_plan.result.1 c.loop.core c.hold_round.new.core c.hold_part.new.core
+    (record { plan = c.loop.plan; look = c.next_plan.result.0; above = c.in-Some-2.above }) c.next_plan.result.1 c.loop.core c.hold_round.new.core
+    c.hold_part.new.core
     (rw c.in-Some-2.is at c.in_ok-above.ensures.held) c.hold_part.ensures.work c.hold_part.ensures.on c.hold_part.ensures.still c.hold_part.ensures.legal
     c.args.core.now c.loop.invariant.within c.loop.invariant.again (c.next_plan.ensures.look (map node_number c.in-Some-2.above.items))
     c.next_plan.ensures.asked

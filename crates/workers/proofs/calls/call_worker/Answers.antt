@@ -7,14 +7,16 @@ use Rattle.workers.proofs.calls.call_worker.Goals as goal
 pub make_call-made-requires-clause-core : goal.make_call-made-requires-clause-core
 make_call-made-requires-clause-core g c κs within =
     more_between c.args.worker.now.core c.look_for-worker.new.self
-    (sees_more c.args.table.now c.args.worker.now.core c.look_for-worker.new.self c.look_for-worker.result (rw c.shared-shared.ensures at c.look_for-worker.ensures.looked)) c.args.table.now
+    (sees_more c.args.table.now c.args.worker.now.core c.look_for-worker.new.self c.look_for-worker.result (rw c.shared-shared.ensures at
+    c.look_for-worker.ensures.looked)) c.args.table.now
     c.requires.rest.between
 
 pub make_call-made-requires-clause-agrees : goal.make_call-made-requires-clause-agrees
 make_call-made-requires-clause-agrees g c κs within =
     g.met.F.Flush.others_keep c.args.flush.now c.args.worker.now.core c.look_for-worker.new.self c.args.worker.now.pen
     (more_keeps c.args.worker.now.core c.look_for-worker.new.self
-    (sees_more c.args.table.now c.args.worker.now.core c.look_for-worker.new.self c.look_for-worker.result (rw c.shared-shared.ensures at c.look_for-worker.ensures.looked)))
+    (sees_more c.args.table.now c.args.worker.now.core c.look_for-worker.new.self c.look_for-worker.result (rw c.shared-shared.ensures at
+    c.look_for-worker.ensures.looked)))
     c.requires.rest.agree
 
 pub returns : goal.returns

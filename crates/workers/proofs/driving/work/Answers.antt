@@ -9,7 +9,8 @@ pub make_calls-made-requires-clause-agrees : goal.make_calls-made-requires-claus
 make_calls-made-requires-clause-agrees g c κs within =
     g.met.F.Flush.others_keep c.args.flush.now c.args.worker.now.core c.look_for-worker.new.self c.args.worker.now.pen
     (more_keeps c.args.worker.now.core c.look_for-worker.new.self
-    (sees_more c.args.table.now c.args.worker.now.core c.look_for-worker.new.self c.look_for-worker.result (rw c.shared-shared.ensures at c.look_for-worker.ensures.looked)))
+    (sees_more c.args.table.now c.args.worker.now.core c.look_for-worker.new.self c.look_for-worker.result (rw c.shared-shared.ensures at
+    c.look_for-worker.ensures.looked)))
     c.requires.rest.agree
 
 pub returns : goal.returns

@@ -57,4 +57,5 @@ returns-clause-counts g c =
 
 pub returns-clause-calls : goal.returns-clause-calls
 returns-clause-calls g c =
-    on_ok c.fill-result.result (call_told c.args.pen.now c.note.new.pen (label.Filled c.args.k c.written-piece.result c.is_ok-done.result) c.note.ensures.tells refl)
+    on_ok c.fill-result.result (call_told c.args.pen.now c.note.new.pen (label.Filled c.args.k c.written-piece.result c.is_ok-done.result)
+    c.note.ensures.tells refl)

@@ -45,4 +45,5 @@ returns-clause-steps g c =
 
 pub returns-clause-calls : goal.returns-clause-calls
 returns-clause-calls g c =
-    on_ok c.place-result.result (call_told c.args.pen.now c.note.new.pen (label.Placed c.args.k c.written-record.result c.is_ok-done.result) c.note.ensures.tells refl)
+    on_ok c.place-result.result (call_told c.args.pen.now c.note.new.pen (label.Placed c.args.k c.written-record.result c.is_ok-done.result)
+    c.note.ensures.tells refl)

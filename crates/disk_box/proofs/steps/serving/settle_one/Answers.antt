@@ -112,5 +112,6 @@ returns-clause-beside g c = goes_told c.args.pen.now c.note.new.pen (label.Settl
 
 pub returns-clause-told : goal.returns-clause-told
 returns-clause-told g c =
-    settled_served g.D.Disk.view c.args.table.now c.args.pen.now c.args.desk.now c.args.k c.requires.serving c.note.new.pen c.slot_turn-turn.result c.requires.kind
+    settled_served g.D.Disk.view c.args.table.now c.args.pen.now c.args.desk.now c.args.k c.requires.serving c.note.new.pen c.slot_turn-turn.result
+    c.requires.kind
     c.note.ensures.tells
