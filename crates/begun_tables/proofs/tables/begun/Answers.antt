@@ -4,8 +4,8 @@ use Rattle.tree_laws.specs.Sound.{IsWithinLimits}
 use Rattle.mem_values.specs.Places.{node_count, place_count}
 use Rattle.begun_tables.proofs.tables.begun.Goals as goal
 
-pub new-requires-clause-table : goal.new-requires-clause-table
-new-requires-clause-table c =
+pub new-requires-2-clause-table : goal.new-requires-2-clause-table
+new-requires-2-clause-table c =
     let made = c.in_ok-shared.ensures in
     let tree = c.requires.tree in
     record {
@@ -16,8 +16,8 @@ new-requires-clause-table c =
           (sym tree.cores_are ∙ ap (λ t. length t.made) (sym made.first));
     }
 
-pub new-requires-clause-numbers : goal.new-requires-clause-numbers
-new-requires-clause-numbers c =
+pub new-requires-2-clause-numbers : goal.new-requires-2-clause-numbers
+new-requires-2-clause-numbers c =
     let made = c.in_ok-shared.ensures in
     let tree = c.requires.tree in
     record {

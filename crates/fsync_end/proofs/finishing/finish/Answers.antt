@@ -13,8 +13,8 @@ pub tell_ghost-requires-clause-may : goal.tell_ghost-requires-clause-may
 tell_ghost-requires-clause-may g c = (
   c.requires.may.told,
   c.requires.may.told_is,
-  may_tell (given_by c.args.table.now) c.args.table.now (nodes_of c.args.table.now) g.J.Telling.fact c.args.ending c.args.core.now
-      (rw c.nodes-nodes.ensures.count at c.nodes-nodes.ensures.table) c.requires.may,
+  rw c.shared-shared.ensures (may_tell (given_by c.args.table.now) c.args.table.now (nodes_of c.args.table.now) g.J.Telling.fact c.args.ending
+      c.args.core.now (rw c.nodes-nodes.ensures.count at c.nodes-nodes.ensures.table) c.requires.may),
 )
 
 pub swap_values-requires : goal.swap_values-requires
@@ -32,7 +32,7 @@ swap_values-requires g c =
     let so : EndsSo s = record {
       table = rw c.nodes-nodes.ensures.count at c.nodes-nodes.ensures.table;
       may = c.requires.may;
-      tells = c.tell_ghost.ensures c.requires.may.told c.requires.may.told_is;
+      tells = rw c.shared-shared.ensures at (c.tell_ghost.ensures c.requires.may.told c.requires.may.told_is);
       puts = refl;
     } in
     count_told s so
@@ -52,10 +52,10 @@ trim_all-requires-clause-at g c =
     let so : EndsSo s = record {
       table = rw c.nodes-nodes.ensures.count at c.nodes-nodes.ensures.table;
       may = c.requires.may;
-      tells = c.tell_ghost.ensures c.requires.may.told c.requires.may.told_is;
+      tells = rw c.shared-shared.ensures at (c.tell_ghost.ensures c.requires.may.told c.requires.may.told_is);
       puts = c.swap_values.ensures.cells;
     } in
-    flushes s so
+    rw c.shared-shared.ensures (flushes s so)
 
 pub trim_all-requires-clause-told : goal.trim_all-requires-clause-told
 trim_all-requires-clause-told g c =
@@ -72,7 +72,7 @@ trim_all-requires-clause-told g c =
     let so : EndsSo s = record {
       table = rw c.nodes-nodes.ensures.count at c.nodes-nodes.ensures.table;
       may = c.requires.may;
-      tells = c.tell_ghost.ensures c.requires.may.told c.requires.may.told_is;
+      tells = rw c.shared-shared.ensures at (c.tell_ghost.ensures c.requires.may.told c.requires.may.told_is);
       puts = c.swap_values.ensures.cells;
     } in
     subst (λ l. HasTold c.swap_values.new.self.view.mine c.swap_values.new.self.view.core c.args.ending.number c.args.ending.stamp.0 (map node_number l))
@@ -93,12 +93,12 @@ let_go-requires-clause-home g c =
     let so : EndsSo s = record {
       table = rw c.nodes-nodes.ensures.count at c.nodes-nodes.ensures.table;
       may = c.requires.may;
-      tells = c.tell_ghost.ensures c.requires.may.told c.requires.may.told_is;
+      tells = rw c.shared-shared.ensures at (c.tell_ghost.ensures c.requires.may.told c.requires.may.told_is);
       puts = c.swap_values.ensures.cells;
     } in
     let trims = subst (λ n. TrimsAll (given_by c.args.table.now) c.args.ending.number n c.swap_values.new.self c.trim_all.new.core)
     (c.logs_to_trim-logs.ensures ∙ ap (λ l. logs_trimmed l c.args.cores) c.deref.ensures.value) (rw c.shared-shared.ensures at c.trim_all.ensures.trims) in
-    all_go_home s so c.args.cores c.trim_all.new.core c.requires.cores trims
+    rw c.shared-shared.ensures (all_go_home s so c.args.cores c.trim_all.new.core c.requires.cores trims)
 
 pub returns-clause-between : goal.returns-clause-between
 returns-clause-between g c =
@@ -115,7 +115,7 @@ returns-clause-between g c =
     let so : EndsSo s = record {
       table = rw c.nodes-nodes.ensures.count at c.nodes-nodes.ensures.table;
       may = c.requires.may;
-      tells = c.tell_ghost.ensures c.requires.may.told c.requires.may.told_is;
+      tells = rw c.shared-shared.ensures at (c.tell_ghost.ensures c.requires.may.told c.requires.may.told_is);
       puts = c.swap_values.ensures.cells;
     } in
     let trims = subst (λ n. TrimsAll (given_by c.args.table.now) c.args.ending.number n c.swap_values.new.self c.trim_all.new.core)
@@ -138,7 +138,7 @@ returns-clause-finishes g c told is =
     let so : EndsSo s = record {
       table = rw c.nodes-nodes.ensures.count at c.nodes-nodes.ensures.table;
       may = c.requires.may;
-      tells = c.tell_ghost.ensures c.requires.may.told c.requires.may.told_is;
+      tells = rw c.shared-shared.ensures at (c.tell_ghost.ensures c.requires.may.told c.requires.may.told_is);
       puts = c.swap_values.ensures.cells;
     } in
     let trims = subst (λ n. TrimsAll (given_by c.args.table.now) c.args.ending.number n c.swap_values.new.self c.trim_all.new.core)
