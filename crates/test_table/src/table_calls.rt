@@ -52,7 +52,7 @@ pub(crate) fn ask<R: Wait, G: Gate>(
     ensures between { IsBetweenCalls table.now core.new }
 {
     let call = call_of(alloc, asked)?;
-    make_call(rt, alloc, table, core, numbers, call, gate)
+    make_call(rt, alloc, table, core, call, gate)
 }
 
 // Whether a call has the reply that a plain tree answers, which makes the same call.
