@@ -1,5 +1,5 @@
 // What a core looks at for an fsync: it holds what was flushed of a node, and copies the logs of all cores as far as that node asks.
-ghost use Rattle.std.specs.Prelude.{◌≡◌};
+ghost use Rattle.std.specs.Prelude.{◌≡◌, ◌≤◌, length};
 ghost use Rattle.stamp_table.specs.Table.{IsBetweenCalls, IsSameCore};
 
 use crate::helpers::{got, holds, some};
@@ -79,6 +79,7 @@ fn looks<R: Wait>(
     whole: bool,
 ) -> Option<bool>
     requires core { IsBetweenCalls table.now core.old }
+    requires cores { CORES ≤ length table.now.first.made }
     ensures same { IsSameCore core.old core.new }
     ensures between { IsBetweenCalls table.now core.new }
 {
