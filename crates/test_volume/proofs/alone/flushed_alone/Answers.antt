@@ -11,7 +11,8 @@ use Rattle.fsync_file.proofs.Seen.{has_seen}
 use Rattle.test_volume.proofs.alone.flushed_alone.Goals as goal
 
 pub flush-requires-clause-saw : goal.flush-requires-clause-saw
-flush-requires-clause-saw g c κs within = has_seen _ _ _ _ _ c.if-has_inode.ensures
+flush-requires-clause-saw g c κs within =
+    rw (c.shared.ensures, c.nodes-nodes.ensures.count) at (has_seen _ _ _ _ _ c.if-has_inode.ensures)
 
 pub flush-requires-clause-agree : goal.flush-requires-clause-agree
 flush-requires-clause-agree g c κs within =
